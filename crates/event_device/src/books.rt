@@ -83,6 +83,11 @@ impl<L: StepLog> StepLog for Books<L> {
         self.log.push_gives(lane, queue, row);
     }
 
+    #[inline(always)]
+    fn push_deals(&mut self, queue: usize, row: &[Delivery], lanes: &[usize]) {
+        self.log.push_deals(queue, row, lanes);
+    }
+
     fn make_room(&mut self, count: usize) -> Result<(), Memory> {
         self.turned.reserve(count)?;
         self.log.make_room(count)

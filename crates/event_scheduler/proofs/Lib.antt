@@ -1,5 +1,6 @@
 pub mod Counts
 pub mod Dealing
+pub mod Deals
 pub mod Ending
 pub mod Gifts
 pub mod Giving

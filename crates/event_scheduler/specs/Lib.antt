@@ -1,3 +1,4 @@
+pub mod Dealing
 pub mod Giving
 pub mod Hidden
 pub mod Looking

@@ -16,7 +16,6 @@ use arrayvec::ArrayVec;
 use evt_types::{Delivery, Serving};
 use lane_rings::{Hints, LaneSet, Near};
 use sched_core::{Core, Skips, Turn};
-use small_set::MAX_MEMBERS;
 use step_log::StepLog;
 
 /// Gives all that may go. There is a copy of the loop for each kind of serving, so that neither asks for what only the other needs.
@@ -83,14 +82,10 @@ fn give_each<L: StepLog, const FLOWS: bool>(
     let mut gave = LaneSet::none();
     while let Some(offer) = core.propose_next(turn, &skips) {
         let lane = offer.lane;
-        if !FLOWS
-            && lanes.len() <= MAX_MEMBERS
-            && let Some(among) = core.deals(&offer, &skips)
-        {
-            let counts = deal_all(core, lanes, offer, among, &mut skips, log);
+        let dealt = deal_all::<L, FLOWS>(core, lanes, &offer, &mut skips, run, log);
+        if dealt > 0 {
             turn = None;
-            given += counts.0;
-            bounced += counts.1;
+            given += dealt;
             continue;
         }
         let near = &mut lanes[lane];

@@ -12,7 +12,7 @@ pub struct Near {
 }
 
 impl Near {
-    ghost use Rattle.std.specs.Prelude.{◌≡◌, ◌≢◌, ◌<◌, ◌≤◌, [], ◌∷◌, ◌++◌, drop, length, take, Some, IsFalse, IsTrue, OnOk, OnErr, IfErr, IfNone, IfSome, IsSome, MatchOption};
+    ghost use Rattle.std.specs.Prelude.{◌≡◌, ◌≢◌, ◌+◌, ◌<◌, ◌≤◌, [], ◌∷◌, ◌++◌, drop, length, take, Some, IsFalse, IsTrue, OnOk, OnErr, IfErr, IfNone, IfSome, IsSome, MatchOption};
     ghost use mathlib.Core.List.{IsPrefix};
     ghost use Rattle.lane_rings.specs.Ends.{offered, hidden_offers, room_in, taken, seen_replies, fetched_replies, next_reply};
     ghost use Rattle.lane_rings.specs.Identity.{near_id};
@@ -44,6 +44,18 @@ impl Near {
         self.deliveries.put(delivery)
     }
 
+    /// As `stage`, of a delivery for which there is room.
+    #[inline(always)]
+    pub fn gather(&mut self, delivery: &Delivery)
+        requires { 0 < room_in self.old }
+        ensures lane { near_id self.new ≡ near_id self.old }
+        ensures replies { (taken self.new ≡ taken self.old) × (seen_replies self.new ≡ seen_replies self.old) × (fetched_replies self.new ≡ fetched_replies self.old) }
+        ensures offered { offered self.new ≡ offered self.old ++ delivery.now ∷ [] }
+        ensures room { room_in self.new + 1 ≡ room_in self.old }
+    {
+        self.deliveries.gather(*delivery);
+    }
+
     /// Puts all that was gathered into the ring, by one store: the holder sees it. Nothing that is seen at this end changes.
     pub fn flush(&mut self)
         ensures lane { near_id self.new ≡ near_id self.old }
@@ -64,6 +76,16 @@ impl Near {
         ensures full { result ≡ 0 → (near_id self.old).depth ≤ length (offered self.old) }
     {
         self.deliveries.room()
+    }
+
+    /// The same, where the ring is looked at anew where fewer than so many are known to be free.
+    #[inline(always)]
+    pub fn room_for(&mut self, count: usize) -> usize
+        ensures lane { near_id self.new ≡ near_id self.old }
+        ensures lists { (offered self.new ≡ offered self.old) × (hidden_offers self.new ≡ hidden_offers self.old) × (taken self.new ≡ taken self.old) × (seen_replies self.new ≡ seen_replies self.old) × (fetched_replies self.new ≡ fetched_replies self.old) }
+        ensures room { result ≡ room_in self.new }
+    {
+        self.deliveries.room_for(count)
     }
 
     /// Puts the deliveries into the ring, by one store: the holder sees them. They are copied there, and nowhere before.

@@ -110,6 +110,20 @@ impl<T: Copy> Outlet<T> {
         self.free - self.batch.len()
     }
 
+    /// How many items more there is a free slot for, as far as that is known; it is looked at anew where fewer than so many are known.
+    #[inline(always)]
+    pub(crate) fn room_for(&mut self, count: usize) -> usize
+        ensures ring { SameProducer self.old.ring self.new.ring × (sent self.new.ring ≡ sent self.old.ring) }
+        ensures put { put_in self.new ≡ put_in self.old }
+        ensures batch { self.new.batch ≡ self.old.batch }
+        ensures room { result ≡ room_of self.new }
+    {
+        if self.free - self.batch.len() < count {
+            self.look();
+        }
+        self.free - self.batch.len()
+    }
+
     /// Puts items into the ring, with one store, where nothing is gathered: they are copied there, and nowhere before.
     #[inline(always)]
     pub(crate) fn put_all(&mut self, items: &[T])

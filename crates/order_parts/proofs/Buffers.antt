@@ -1,7 +1,7 @@
 -- The buffers of a device's queues, one of which changes or comes.
 use Rattle.std.proofs.Common.{◌≡◌, ℕ, ◌<◌, ◌+◌, List, [], ◌∷◌, ◌++◌, length, map, take, set, get_or, All, Option, Some, true, refl, sym, ap, ◌∙◌, subst, arith}
 use Rattle.std.proofs.lemmas.Bool.{lt-ltb}
-use Rattle.std.proofs.lemmas.List.{length-map, map-set, map_push, get_or-map, take_more}
+use Rattle.std.proofs.lemmas.List.{length-map, map-set, map_push, get_or-map, get_or-set_same, take_more}
 use Rattle.std.proofs.lemmas.List.Elements.{All-nil, All-push, All-set}
 use Rattle.evt_types.specs.declared.draft.QueueDraft.{QueueDraft}
 use Rattle.order_parts.specs.Reorder.{Reordering, empty}
@@ -31,6 +31,13 @@ set_shown f os rs q old new v h is e =
     let there : q < length os = omega (arith, h, same) in
     let here : order_at (map shown os) q ≡ shown old = get_or-map shown os q old (empty 0) there ∙ ap shown (sym is) in
     map-set shown os q new ∙ (ap (set (map shown os) q) (e ∙ ap f (sym here)) ∙ ap (λ ys. set ys q (f (order_at ys q))) v)
+
+-- what one is, once it is another
+pub shown_there : (os : List (Option Reordering)) (rs : List Reordering) (q : ℕ) (o : Option Reordering) → map shown os ≡ rs → q < length rs → order_at (map shown (set os q o)) q ≡ shown o
+shown_there os rs q o v h = ap (λ xs. order_at xs q) (map-set shown os q o ∙ ap (λ xs. set xs q (shown o)) v) ∙ get_or-set_same rs q (shown o) (empty 0) h
+
+pub shown_set : (os : List (Option Reordering)) (rs : List Reordering) (q : ℕ) (o : Option Reordering) → map shown os ≡ rs → q < length rs → map shown (set os q o) ≡ set rs q (order_at (map shown (set os q o)) q)
+shown_set os rs q o v h = map-set shown os q o ∙ (ap (λ xs. set xs q (shown o)) v ∙ ap (set rs q) (sym (shown_there os rs q o v h)))
 
 -- so many places of one leave
 pub buffers_left : (os : List (Option Reordering)) (rs : List Reordering) (q : ℕ) (old : Option Reordering) (r new : Reordering) → All IsBufferOf os → map shown os ≡ rs → q < length rs

@@ -1,10 +1,13 @@
 pub mod Buffers
 pub mod Changes
+pub mod Dealt
 pub mod EmptyLanes
+pub mod Fewest
 pub mod Fields
 pub mod FreePins
 pub mod HandedOn
 pub mod HeldSlots
+pub mod Holders
 pub mod Holds
 pub mod InTurn
 pub mod Kept

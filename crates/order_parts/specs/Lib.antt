@@ -1,3 +1,4 @@
+pub mod Dealing
 pub mod HandedRow
 pub mod Held
 pub mod Histories

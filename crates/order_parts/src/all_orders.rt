@@ -20,7 +20,7 @@ use std::marker::Model;
 /// An ordered queue has a buffer with a place for each of its open events; any other queue restores no order and has none.
 #[derive(Drop)]
 pub struct AllOrders {
-    queues: Vec<Option<Reorder>>,
+    pub(crate) queues: Vec<Option<Reorder>>,
 }
 
 impl Model for AllOrders {

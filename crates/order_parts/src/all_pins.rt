@@ -2,7 +2,7 @@
 
 ghost use Rattle.std.specs.Prelude.{◌≡◌, ◌≢◌, ℕ, ◌<◌, ◌≤◌, ◌↔◌, count_by, length, slice_get, slice_set, take, All, Some, IfOk, IsTrue};
 ghost use Rattle.evt_types.specs.Plan.{atomic_slots};
-ghost use Rattle.order_parts.specs.Pins.{IsOn, holder_of, is_on, may_pin, pinned, unpinned};
+ghost use Rattle.order_parts.specs.Pins.{IsOn, is_on, may_pin, pinned, unpinned};
 ghost use Rattle.order_parts.specs.Histories.{lane_in};
 ghost use Rattle.order_parts.specs.Unpinned.{AreHeldInTurn, IsOfQueue, without_entries};
 ghost use Rattle.order_parts.specs.declared.history.Entry.{Entry as EntryValue};
@@ -89,19 +89,6 @@ impl AllPins {
     {
         let pins = &self.queues[queue];
         pins.slots() <= slot || pins.may(slot, lane)
-    }
-
-    /// The lane that has the slot, if one has it. A slot without a pin is free.
-    #[inline(always)]
-    pub fn holder(&self, queue: usize, slot: usize) -> Option<usize>
-        requires { queue < length self.now }
-        ensures { result ≡ holder_of (pin_in self.now queue slot) }
-    {
-        let hold = self.queues[queue].holds.get(slot)?;
-        if hold.count == 0 {
-            return None;
-        }
-        Some(hold.lane)
     }
 
     /// The slots that stand on none of these lanes: they are free, or stand on another one. Of a slot that stands on a lane beyond the

@@ -1,9 +1,11 @@
 //! The unanswered events of all lanes.
 
-ghost use Rattle.std.specs.Prelude.{◌≡◌, ℕ, take, ◌+◌, ◌<◌, ◌≤◌, ◌==◌, ◌∷◌, ◌++◌, [], count_by, length, map, drop, slice_get, slice_set, Some, IfOk, IsTrue, IsFalse};
+ghost use Rattle.std.specs.Prelude.{◌≡◌, ℕ, true, take, ◌+◌, ◌<◌, ◌≤◌, ◌==◌, ◌∷◌, ◌++◌, [], count_by, length, map, drop, slice_get, slice_set, Some, IfNone, IfOk, IfSome, IsTrue, IsFalse};
 ghost use Rattle.evt_types.specs.Plan.{lanes_of};
 ghost use Rattle.evt_types.specs.declared.shape.TheConstants.{MAX_DEPTH};
+ghost use Rattle.order_parts.specs.Dealing.{AreDealt, IsBestOf, room_at};
 ghost use Rattle.order_parts.specs.HandedRow.{AreHandedOn, IsRefused, OfFlows};
+ghost use Rattle.order_parts.specs.Orders.{is_restoring, order_at};
 ghost use Rattle.order_parts.specs.Pins.{may_pin};
 ghost use Rattle.order_parts.specs.QueuePins.{pin_in, pins_at};
 ghost use Rattle.order_parts.specs.History.{entries_of};
@@ -11,7 +13,9 @@ ghost use Rattle.order_parts.specs.declared.history.Entry.{Entry as EntryValue};
 ghost use Rattle.order_parts.specs.Histories.{AreRoomy, HasRoom, lane_in, AreEmptyLanes};
 ghost use Rattle.small_set.specs.SmallSets.{Has, SameBut};
 
+use crate::all_orders::AllOrders;
 use crate::all_pins::AllPins;
+use crate::dealing::{deal_each, deal_ordered, lane_among};
 use crate::handing::hand_each;
 use crate::history::{Entry, History};
 use arrayvec::ArrayVec;
@@ -54,7 +58,7 @@ fn empty_lanes(alloc: Global, shape: &Shape) -> Result<Vec<History>, Memory>
 
 /// The lane has no room any more, which is seldom so.
 #[cold]
-fn note_full(roomy: &mut SmallSet, lane: usize)
+pub(crate) fn note_full(roomy: &mut SmallSet, lane: usize)
     ensures others { SameBut lane roomy.old roomy.new }
     ensures full { lane < 64 → ¬ Has roomy.new lane }
 {
@@ -179,6 +183,64 @@ impl Histories {
             note_full(&mut self.roomy, lane);
         }
         count
+    }
+
+    /// Of these lanes the one that may have the queue's slot and has fewest unanswered events, of several the first.
+    #[inline(always)]
+    pub fn lane_among(
+        &self,
+        pins: &AllPins,
+        lanes: SmallSet,
+        queue: usize,
+        slot: usize,
+    ) -> Option<usize>
+        requires queue { queue < length pins.now }
+        requires lanes { (l : ℕ) → Has lanes l → l < length self.now }
+        ensures best { IfSome result (IsBestOf (pins_at pins.now queue) self.now lanes slot) }
+        ensures none { IfNone result ((l : ℕ) → Has lanes l → ¬ IsTrue (may_pin (pin_in pins.now queue slot) l)) }
+    {
+        lane_among(&pins.queues[queue], &self.lanes, lanes, slot)
+    }
+
+    /// Deals events of the queue among these lanes, in their order, each to the best one of them that has room, as long as one of those
+    /// may have the event's slot: each one's lane. Each is one more that is unanswered.
+    #[inline(always)]
+    pub fn deal_row<F: Fn(u32) -> usize>(
+        &mut self,
+        orders: &mut AllOrders,
+        pins: &mut AllPins,
+        among: SmallSet,
+        queue: usize,
+        row: &[Delivery],
+        slot_of: F,
+        to: &mut ArrayVec<usize, 32>,
+    )
+        requires callable { F.IsAlwaysCallable slot_of }
+        requires order { queue < length orders.old }
+        requires pins { queue < length pins.old }
+        requires there { (l : ℕ) → Has among l → l < length self.old }
+        requires roomy { (l : ℕ) → Has among l → HasRoom self.old l }
+        requires unpinned { is_restoring (order_at orders.old queue) ≡ true → pins_at pins.old queue ≡ [] }
+        requires places { is_restoring (order_at orders.old queue) ≡ true → length (order_at orders.old queue).places + length row.now ≤ (order_at orders.old queue).depth }
+        requires counts { (slot l : ℕ) → Has among l → IsTrue (may_pin (pin_in pins.old queue slot) l) → (pin_in pins.old queue slot).count + room_at self.old l ≤ MAX_DEPTH }
+        requires few { length row.now ≤ 32 }
+        requires none { to.old.items ≡ [] }
+        ensures few { length to.new.items ≤ length row.now }
+        ensures dealt { AreDealt (OfFlows (F.post slot_of)) among queue (order_at orders.old queue) (pins_at pins.old queue) self.old (take (length to.new.items) row.now) to.new.items (order_at orders.new queue) (pins_at pins.new queue) self.new }
+        ensures orders { orders.new ≡ slice_set orders.old queue (order_at orders.new queue) }
+        ensures pins { pins.new ≡ slice_set pins.old queue (pins_at pins.new queue) }
+    {
+        let mut open = among;
+        match &mut orders.queues[queue] {
+            Some(order) => {
+                deal_ordered(order, &mut self.lanes, &mut open, queue, row, slot_of, to);
+            }
+            None => {
+                let pins = &mut pins.queues[queue];
+                deal_each(pins, &mut self.lanes, &mut open, queue, row, slot_of, to);
+            }
+        }
+        self.roomy = self.roomy.except(among.except(open));
     }
 
     /// The lane's oldest event, which stays.

@@ -4,6 +4,7 @@
 
 mod all_orders;
 mod all_pins;
+mod dealing;
 mod handing;
 mod histories;
 mod history;

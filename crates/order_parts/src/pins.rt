@@ -3,7 +3,7 @@
 ghost use Rattle.std.specs.Prelude.{◌≡◌, ℕ, ◌+◌, ◌<◌, ◌≤◌, ◌↔◌, List, count_by, length, map, replicate, slice_set, IfOk, IsTrue};
 ghost use Rattle.evt_types.specs.declared.shape.TheConstants.{MAX_DEPTH};
 ghost use Rattle.order_parts.specs.Held.{AreHeld, AreHeldBelow, AreNoted};
-ghost use Rattle.order_parts.specs.Pins.{IsOn, Pin, cell_of, free, is_on, pin_at, pin_of, pin_on, may_pin, pinned, unpinned};
+ghost use Rattle.order_parts.specs.Pins.{IsOn, Pin, cell_of, free, holder_of, is_on, pin_at, pin_of, pin_on, may_pin, pinned, unpinned};
 ghost use Rattle.order_parts.specs.declared.pins.Hold.{Hold as HoldValue};
 ghost use Rattle.small_set.specs.SmallSets.{Has};
 
@@ -173,6 +173,18 @@ impl Pins {
         ensures { result ≡ length self.now }
     {
         self.holds.len()
+    }
+
+    /// The lane that has the slot, if one has it. A slot without a pin is free.
+    #[inline(always)]
+    pub(crate) fn holder(&self, slot: usize) -> Option<usize>
+        ensures { result ≡ holder_of (pin_at self.now slot) }
+    {
+        let hold = self.holds.get(slot)?;
+        if hold.count == 0 {
+            return None;
+        }
+        Some(hold.lane)
     }
 
     /// Whether an event of the slot may go to the lane: the slot is free, or this lane has it.

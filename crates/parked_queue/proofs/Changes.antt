@@ -1,6 +1,8 @@
 -- The store and its view after an event has come or gone.
-use Rattle.std.proofs.Common.{◌≡◌, ◌≢◌, ℕ, suc, ◌+◌, ◌-◌, ◌<◌, ◌≤◌, List, [], ◌∷◌, ◌++◌, append_assoc, length, length-append, drop, filter, Option, Some, IsSome, refl, sym, ap, subst, ◌∙◌, arith, slice_get, slice_index_or, slice_set}
-use Rattle.std.proofs.lemmas.List.{set-get_or}
+use Rattle.std.proofs.Common.{◌≡◌, ◌≢◌, ℕ, suc, ◌+◌, ◌-◌, ◌<◌, ◌≤◌, List, [], ◌∷◌, ◌++◌, append_assoc, length, length-append, drop, filter, take, Option, Some, IsSome, refl, sym, ap, subst, ◌∙◌, arith, slice_get, slice_index_or, slice_set}
+use Rattle.std.proofs.lemmas.List.{length-drop, length-take-le, set-get_or, take-append-drop}
+use Rattle.std.proofs.lemmas.Option.{slice_get_within}
+use Rattle.lists.proofs.Lists.{drop-slice_get}
 use Rattle.evt_types.specs.declared.event.Numbered.{Numbered}
 use Rattle.parked_queue.specs.Chains.{AreNodes, IsBehind, IsChain, IsFilled, IsLinked, chain_at, events_of, item_then, items, next_of, no_chain, path_of}
 use Rattle.parked_queue.specs.Lists.{Lists, list_at, total_of, with_list, with_last, without_first}
@@ -8,6 +10,7 @@ use Rattle.parked_queue.specs.Store.{AreChains, IsStore, lists_in}
 use Rattle.parked_queue.specs.Waits.{IsRising, is_other}
 use Rattle.parked_queue.specs.declared.chain.Chain.{Chain}
 use Rattle.parked_queue.specs.declared.chain.Node.{Node}
+use Rattle.parked_queue.proofs.FreeRows.{chains_joined, events_joined, joined_others}
 use Rattle.parked_queue.proofs.Nodes.{node_found, some_found}
 use Rattle.parked_queue.proofs.Paths.{front_nodes, items_append, nodes_without, path_none}
 use Rattle.parked_queue.proofs.Stores.{HasLoose, chains_come, chains_freed, come_others, events_come, events_first, events_freed, events_past, loose_first, loose_past, loose_taken, past_others}
@@ -188,6 +191,81 @@ module _ (old : List Node) (size free : ℕ) (cs : List Chain) (room : ℕ) (v :
         (omega (arith, total_first v k lt some, within.0))
         one_more d.spacious
         (chains_freed at (slice_get new) size (suc (room - total_of v)) free (slice_set cs k shorter) whole.first loose_gone linked_at.linked linked_at.others))
+
+  -- ---- the oldest events have gone: their nodes are free as they lead to one another, and this is the last one
+
+  module _ (n j : ℕ) (last : slice_get (path_of at size c) n ≡ Some j) where
+    abbrev front : List ℕ
+    front = take n (path_of at size (chain_at cs k))
+
+    abbrev past : List ℕ
+    past = drop (n + 1) (path_of at size (chain_at cs k))
+
+    last_at : slice_get (path_of at size (chain_at cs k)) n ≡ Some j
+    last_at = subst (λ (x : Chain). slice_get (path_of at size x) n ≡ Some j) is last
+
+    row_whole : path_of at size (chain_at cs k) ≡ front ++ j ∷ past
+    row_whole =
+        sym (take-append-drop n (path_of at size (chain_at cs k)))
+        ∙ ap (λ (js : List ℕ). front ++ js) (drop-slice_get (path_of at size (chain_at cs k)) n j last_at)
+
+    pub last_there : IsSome (at j)
+    last_there =
+        let nodes = front_nodes at d.chains.owner (suc k) (path_of at size (chain_at cs k)) ((chain_at cs k).spare ∷ []) (d.chains.each k there).nodes in
+        (nodes_without at d.chains.owner (suc k) j front past (subst (AreNodes at d.chains.owner (suc k)) row_whole nodes)).0
+
+    row_long : length (front ++ j ∷ []) ≡ n + 1
+    row_long =
+        let within_path = slice_get_within (path_of at size (chain_at cs k)) n j last_at in
+        omega (arith, length-append front (j ∷ []), length-take-le n (path_of at size (chain_at cs k)) (omega (arith, within_path)))
+
+    abbrev fewer : Lists
+    fewer = with_list v k (drop (n + 1) (list_at v k))
+
+    fewer_left : total_of fewer + (n + 1) ≡ total_of v
+    fewer_left =
+        let within_path = slice_get_within (path_of at size c) n j last in
+        let events = length_events at d.chains.owner (suc k) size c chain_here in
+        omega (arith, within_path, events, ap length events_here, total_with v k (drop (n + 1) (list_at v k)) lt, length-drop (n + 1) (list_at v k))
+
+    module _ (new : List Node) (count next rest : ℕ) (r : Chain) (same : count ≡ size) (behind : next ≡ next_of (at j)) (freed : rest ≡ c.first) (linked : IsLinked old new j free) (made : r ≡ record { first = next; spare = c.spare }) where
+      abbrev left_chain : Chain
+      left_chain = record { first = next_of (at j); spare = (chain_at cs k).spare }
+
+      made_left : left_chain ≡ r
+      made_left =
+          sym
+          (made
+          ∙ ap (λ (i : ℕ). let y : Chain = record { first = i; spare = c.spare } in y) behind
+          ∙ ap (λ (x : Chain). let y : Chain = record { first = next_of (at j); spare = x.spare } in y) is)
+
+      left_events : events_of (slice_get new) size left_chain ≡ drop (n + 1) (list_at v k)
+      left_events =
+          events_joined at (slice_get new) size (suc (room - total_of v)) free cs k j front past there chains row_whole linked.linked linked.others
+          ∙ ap (λ (m : ℕ). drop m (events_of at size (chain_at cs k))) row_long
+          ∙ ap (drop (n + 1)) (list_seen at size cs room v view k there)
+
+      view_left : lists_in (slice_get new) size (slice_set cs k left_chain) room ≡ fewer
+      view_left =
+          view_changed at (slice_get new) size cs room k left_chain there
+          (joined_others at (slice_get new) size (suc (room - total_of v)) free cs k j front past there chains row_whole linked.linked linked.others)
+          ∙ ap (with_list (lists_in at size cs room) k) left_events
+          ∙ ap (λ (u : Lists). with_list u k (drop (n + 1) (list_at v k))) view
+
+      pub view_row_gone : lists_in (slice_get new) count (slice_set cs k r) room ≡ fewer
+      view_row_gone = viewed_as (slice_get new) count left_chain r same made_left ∙ view_left
+
+      pub store_row_gone : IsStore (slice_get new) count rest (slice_set cs k r) room
+      store_row_gone =
+          let total = fewer_left in
+          let most = within.0 in
+          let long = row_long in
+          stored_as (slice_get new) count rest (chain_at cs k).first left_chain r same made_left (freed ∙ ap (λ (x : Chain). x.first) is)
+          (store_seen (slice_get new) size (chain_at cs k).first (slice_set cs k left_chain) room (length (front ++ j ∷ []) + suc (room - total_of v)) fewer view_left
+          (omega (arith, total, most))
+          (omega (arith, total, most, long))
+          d.spacious
+          (chains_joined at (slice_get new) size (suc (room - total_of v)) free cs k j front past there chains row_whole linked.linked linked.others))
 
   -- ---- a later event has gone
 

@@ -111,12 +111,6 @@ dropped_at l m k xs there is = ap (λ x. list_at x k) is ∙ get_or-set_same l.l
 with_twice : (l : Lists) (k : ℕ) (xs ys : List Numbered) → with_list (with_list l k xs) k ys ≡ with_list l k ys
 with_twice l k xs ys = ap (λ ls. record l { lists = ls }) (set-set l.lists k xs ys)
 
-pub dropped_more : (l m : Lists) (k i : ℕ) → k < length l.lists → m ≡ with_list l k (drop i (list_at l k)) → without_first m k ≡ with_list l k (drop (i + 1) (list_at l k))
-dropped_more l m k i there is =
-    ap (λ xs. with_list m k (drop 1 xs)) (dropped_at l m k (drop i (list_at l k)) there is)
-    ∙ (ap (λ x. with_list x k (drop 1 (drop i (list_at l k)))) is
-    ∙ (with_twice l k (drop i (list_at l k)) (drop 1 (drop i (list_at l k))) ∙ ap (with_list l k) (drop-drop 1 i (list_at l k))))
-
 -- the first events of the level's own list go, so many
 pub heads_gone : (l : Lists) (p : Parking) (c : ℕ) (hs rest : List Numbered) → IsParted l p → c < 4 → list_at l (p.base + c) ≡ hs ++ rest
     → All (λ (w : Numbered). IsOnlyOf (waits_by l p) c (w.event.flow % p.slots) w.number) hs

@@ -33,3 +33,4 @@ pub mod Walks
 pub mod LevelHeads
 pub mod LevelRows
 pub mod HeadRows
+pub mod FreeRows

@@ -15,10 +15,10 @@ use Rattle.parked_queue.proofs.Paths.{fresh_back, fresh_front, fresh_other, item
 abbrev pub owner_with : (ℕ → ℕ) → ℕ → ℕ → ℕ → ℕ
 owner_with owner j k i = cond (eqb i j) k (owner i)
 
-owned_other : (owner : ℕ → ℕ) (j k i : ℕ) → i ≢ j → owner_with owner j k i ≡ owner i
+pub owned_other : (owner : ℕ → ℕ) (j k i : ℕ) → i ≢ j → owner_with owner j k i ≡ owner i
 owned_other owner j k i n = ap (λ (b : Bool). cond b k (owner i)) (ne_eqb i j n)
 
-owned_new : (owner : ℕ → ℕ) (j k : ℕ) → owner_with owner j k j ≡ k
+pub owned_new : (owner : ℕ → ℕ) (j k : ℕ) → owner_with owner j k j ≡ k
 owned_new owner j k = ap (λ (b : Bool). cond b k (owner j)) (eq-eqb j j refl)
 
 -- ---- one chain

@@ -1,8 +1,9 @@
 -- What is left of a chain's path at one of its nodes.
-use Rattle.std.proofs.Common.{◌≡◌, ◌≢◌, ℕ, ◌<◌, ◌≤◌, List, [], ◌∷◌, ◌++◌, ◌==◌, length, length-append, append_assoc, map, All, false, true, Option, Some, IsSome, sym, ap, subst, ◌∙◌, arith, slice_get, slice_index_or, Vec}
+use Rattle.std.proofs.Common.{◌≡◌, ◌≢◌, ℕ, ◌+◌, ◌<◌, ◌≤◌, List, [], ◌∷◌, ◌++◌, ◌==◌, drop, length, length-append, append_assoc, map, All, false, true, Option, Some, IsSome, sym, ap, subst, ◌∙◌, arith, slice_get, slice_index_or, Vec}
 use Rattle.std.specs.declared.alloc.Global.{Global}
 use Rattle.std.proofs.lemmas.List.Elements.{All-append, All-cons, All-nil}
-use Rattle.lists.proofs.Lists.{eqb_same}
+use Rattle.std.proofs.lemmas.List.{drop-drop, length-drop}
+use Rattle.lists.proofs.Lists.{eqb_same, slice_get-drop}
 use Rattle.std.proofs.lemmas.Bool.{false≢true}
 use Rattle.evt_types.specs.declared.event.Delivery.{Delivery}
 use Rattle.evt_types.specs.declared.event.Numbered.{Numbered}
@@ -158,6 +159,22 @@ module _ (at : ℕ → Option Node) where
       ap (λ (xs : List Delivery). xs ++ behind) more
       ∙ append_assoc ps (named_delivery m.item ∷ []) behind
       ∙ sym (ap (λ (js : List ℕ). ps ++ map named_delivery (items at js)) whole ∙ ap (λ (ws : List Numbered). ps ++ map named_delivery ws) (item_next i m rest found))
+
+-- ---- so many of them are passed
+
+module _ (at : ℕ → Option Node) (last i n : ℕ) (is : List ℕ) (d : IsLeft at last i (drop n is)) (more : n < length is) where
+  pub left_at : HasNext at last i (drop n is)
+  left_at =
+      left_next at last i (drop n is) d
+      (λ (e : i ≡ last). absurd (omega (arith, more, length-drop n is, ap length (left_none at last i (drop n is) d e))))
+
+  pub left_more : IsLeft at last (next_of (at i)) (drop (n + 1) is)
+  left_more =
+      let step = left_at in
+      subst (IsLeft at last (next_of (at i))) (sym (ap (drop 1) step.whole) ∙ drop-drop 1 n is) step.left
+
+  pub left_nth : slice_get is n ≡ Some i
+  left_nth = let step = left_at in slice_get-drop is n i step.rest step.whole
 
 -- ---- the first one is read
 

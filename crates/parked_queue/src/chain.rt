@@ -1,8 +1,8 @@
 //! A list of events as a chain of nodes in a store that many chains share. Each chain ends in a spare node, into which its next
 //! event is written. So a chain is never without a node, and it asks of no event whether it is the first one.
 
-ghost use Rattle.std.specs.Prelude.{◌≡◌, ℕ, ◌==◌, ◌+◌, ◌<◌, ◌≤◌, ◌^◌, false, List, length, slice_get, vec_len, IfNone, IfOk, IfSome};
-ghost use Rattle.parked_queue.specs.Chains.{AreInRow, HasChain, HasNone, IsBehind, IsFilled, IsLinked, AreNewChains, events_of, next_of};
+ghost use Rattle.std.specs.Prelude.{◌≡◌, ℕ, ◌==◌, ◌+◌, ◌<◌, ◌≤◌, ◌^◌, false, List, Some, length, slice_get, vec_len, IfNone, IfOk, IfSome};
+ghost use Rattle.parked_queue.specs.Chains.{AreInRow, HasChain, HasNone, IsBehind, IsFilled, IsLinked, AreNewChains, events_of, next_of, path_of};
 ghost use Rattle.parked_queue.specs.Lists.{has_number, numbered, numbered_from};
 ghost use Rattle.parked_queue.specs.Store.{HasCome, HasStore, IsOfStore};
 ghost use Rattle.parked_queue.specs.declared.chain.Chain.{Chain as ChainValue};
@@ -141,6 +141,20 @@ pub(crate) fn skip(nodes: &mut Vec<Node>, node: usize) -> usize
     let behind = nodes[node].next;
     nodes[node].next = nodes[behind].next;
     behind
+}
+
+/// The node of the event so many behind the chain's first one.
+#[inline(always)]
+pub(crate) fn node_behind(nodes: &Vec<Node>, chain: Chain, count: usize) -> usize
+    requires chain { HasChain (slice_get nodes.now.items) (vec_len nodes.now) chain }
+    requires some { count < length (path_of (slice_get nodes.now.items) (vec_len nodes.now) chain) }
+    ensures { slice_get (path_of (slice_get nodes.now.items) (vec_len nodes.now) chain) count ≡ Some result }
+{
+    let mut node = chain.first;
+    for _ in 0..count {
+        node = nodes[node].next;
+    }
+    node
 }
 
 /// The node before the one whose event has the number, which isn't the first one.

@@ -7,7 +7,7 @@ ghost use Rattle.parked_queue.specs.Lists.{list_at, named_delivery, with_list};
 ghost use Rattle.parked_queue.specs.Rows.{AreHeads, at_level, without_all};
 ghost use Rattle.parked_queue.specs.Waits.{IsOnlyOf, waits_at};
 
-use crate::chain::Node;
+use crate::chain::{Node, node_behind, release};
 use crate::level::Level;
 use crate::queues::ParkedQueues;
 use crate::slot::QueueSlots;
@@ -42,9 +42,15 @@ impl WaitingLists {
         requires some { count ≤ length (list_at self.old list) }
         ensures { self.new ≡ with_list self.old list (drop count (list_at self.old list)) }
     {
-        for _ in 0..count {
-            self.drop_first(list);
+        if count == 0 {
+            return;
         }
+        let chain = &mut self.chains[list];
+        let first = chain.first;
+        let last = node_behind(&self.nodes, *chain, count - 1);
+        // The nodes lead to one another already. So only the last one is made to lead to the free nodes, and the first one is taken next.
+        chain.first = release(&mut self.nodes, &mut self.free, last);
+        self.free = first;
     }
 }
 

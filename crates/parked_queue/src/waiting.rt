@@ -19,7 +19,7 @@ pub struct WaitingLists {
     pub(crate) nodes: Vec<Node>,
     // The node that became free last, which leads to the one before it, and so on. One is left over when there is room for no event.
     // What became free last is taken first, while its memory is in the cache.
-    free: usize,
+    pub(crate) free: usize,
     // One for each list.
     pub(crate) chains: Vec<Chain>,
     room: usize,

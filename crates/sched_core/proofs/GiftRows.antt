@@ -1,5 +1,5 @@
 -- A core after a row of events is handed to a lane: that what holds of each core holds of it, and that each event was the choice.
-use Rattle.std.proofs.Common.{◌≡◌, ◌↔◌, ℕ, ◌+◌, ◌<◌, ◌≤◌, ◌%◌, append_assoc, drop, take, eqb-true, true, false, List, [], ◌∷◌, ◌++◌, length, map, set, get_or, All, Contains, IsTrue, Some, inl, inr, refl, sym, ap, ◌∙◌, subst, arith}
+use Rattle.std.proofs.Common.{◌≡◌, ◌↔◌, ℕ, ◌+◌, ◌<◌, ◌≤◌, ◌%◌, append_assoc, drop, take, eqb-true, true, false, List, [], ◌∷◌, ◌++◌, length, map, set, get_or, All, Contains, IsTrue, Some, refl, sym, ap, ◌∙◌, subst, arith}
 use Rattle.std.proofs.lemmas.Grind.{get_or-set_at}
 use Rattle.std.specs.List.{take-map}
 use Rattle.std.proofs.lemmas.List.{get_or-set_same, length-map, length-set, set-get_or, set-set, take-append-drop}
@@ -11,6 +11,7 @@ use Rattle.evt_types.specs.declared.event.Event.{Event}
 use Rattle.evt_types.specs.declared.event.Delivery.{Delivery}
 use Rattle.evt_types.specs.declared.event.Numbered.{Numbered}
 use Rattle.evt_types.specs.declared.step.Step.TheVariants.{Give}
+use Rattle.order_parts.specs.Dealing.{with_entry}
 use Rattle.order_parts.specs.History.{Entries}
 use Rattle.order_parts.specs.Orders.{handed, is_restoring, order_at}
 use Rattle.order_parts.specs.Pins.{Pin, may_pin}
@@ -27,75 +28,67 @@ use Rattle.sched_core.proofs.Cores.{only_event, queue_here, queue_there, waiting
 use Rattle.sched_core.proofs.FirstOnes.{found_first, found_slot, slots_within}
 use Rattle.sched_core.proofs.Giving.{given_out}
 use Rattle.sched_core.proofs.News.{slots_range}
+use Rattle.order_parts.proofs.Fewest.{not_itself}
 use Rattle.sched_core.proofs.Offers.{all_allowed, choice_is_offer, offer_in}
 use Rattle.sched_core.proofs.OpenLanes.{held_best, held_fits}
 use Rattle.sched_core.proofs.Pinned.{may_is_alone}
 use Rattle.sched_core.proofs.Runs.{choice_in_turn, steady_on, times_none, turn_on}
 use Rattle.sched_core.proofs.Sound.{core_sized}
-use Rattle.sched_core.specs.Offered.{AreOpenLanes, IsOfferIn, IsOnly, MayHold, slot_at}
-use Rattle.sched_core.specs.GiftRows.{AreHanded, pinned_on, with_entry}
+use Rattle.sched_core.specs.Offered.{AreOpenLanes, FitsSlot, IsOfferIn, IsOnly, MayHold, loads_at, slot_at}
+use Rattle.sched_core.specs.GiftRows.{AreHanded, pinned_on}
 use Rattle.sched_core.specs.Runs.{AreChoices, AreGiven, HasTurn, IsSteady, given_once, given_times}
 use Rattle.sched_core.specs.View.{IsCore, unanswered_in, view_in}
 use Rattle.sched_core.specs.declared.state.Core.TheInside.{Inside}
 use Rattle.small_set.specs.SmallSets.{Has}
 use Rattle.small_set.specs.declared.set.SmallSet.{SmallSet}
-use Rattle.transcripts.specs.Choice.{IsBetterLane, IsChoice, IsOffer, Passed}
-use Rattle.transcripts.specs.Standing.{View, after, after_give, unanswered_at}
+use Rattle.transcripts.specs.Choice.{HasQuota, IsBetterLane, IsChoice, IsOffer, Passed}
+use Rattle.transcripts.specs.Standing.{View, after, after_give}
 
 -- the core with other lists, orders, pins and histories
 abbrev pub with_parts : Inside → List Waits → List Reordering → List (List Pin) → List Entries → Inside
 with_parts a qs os ps ls = record { shape = a.shape; queues = qs; orders = os; lanes = ls; extras = a.extras; pins = ps; links = a.links; ahead = a.ahead; slot_lanes = a.slot_lanes; open_slots = a.open_slots; bound = a.bound; log_room = a.log_room; inside = a.inside; entries = a.entries; shut = a.shut }
 
--- no lane is better than itself
-none_better : (v : View) (l m : ℕ) → m ≡ l → ¬ IsBetterLane v m l
-none_better v l m same (inl less) = let e = ap (λ k. length (unanswered_at v k)) same in omega arith
-none_better v l m same (inr both) = let less = both.1 in omega arith
-
 -- ---- one event of a row
 
-record IsOne (a : Inside) (t : Passed) (l q : ℕ) (w : Numbered) (y : Entry) : Type 0 where
-  choice : IsChoice (view_in a) t l q w
-  core : IsCore (with_parts a (set a.queues q (without_number (waits_at a.queues q) w.number)) (set a.orders q (handed (order_at a.orders q) w.number)) (pinned_on a.pins q y.slot l) (with_entry a.lanes l y))
-  view : view_in (with_parts a (set a.queues q (without_number (waits_at a.queues q) w.number)) (set a.orders q (handed (order_at a.orders q) w.number)) (pinned_on a.pins q y.slot l) (with_entry a.lanes l y)) ≡ after_give (view_in a) l q w.number
+pub record IsOne (a : Inside) (t : Passed) (l q : ℕ) (w : Numbered) (y : Entry) : Type 0 where
+  pub choice : IsChoice (view_in a) t l q w
+  pub core : IsCore (with_parts a (set a.queues q (without_number (waits_at a.queues q) w.number)) (set a.orders q (handed (order_at a.orders q) w.number)) (pinned_on a.pins q y.slot l) (with_entry a.lanes l y))
+  pub view : view_in (with_parts a (set a.queues q (without_number (waits_at a.queues q) w.number)) (set a.orders q (handed (order_at a.orders q) w.number)) (pinned_on a.pins q y.slot l) (with_entry a.lanes l y)) ≡ after_give (view_in a) l q w.number
+
+-- the level's first event is the choice for the best of the lanes that may take it
+pub one_given : (n q c : ℕ) (all : SmallSet) → ((slot : ℕ) → slot < 64 → Has all slot) → (l : ℕ) (a : Inside) (t : Passed) (w : Numbered) (ws : List Numbered) (place : ℕ) → IsCore a → q < length a.shape.queues
+    → n ≡ (waits_at a.queues q).slots → HasTurn (view_in a) t q c → HasQuota (view_in a) t q → at_level c (waits_at a.queues q) ≡ w ∷ ws → FitsSlot (view_in a) t q (w.event.flow % n) l
+    → ((m : ℕ) → FitsSlot (view_in a) t q (w.event.flow % n) m → ¬ IsBetterLane (view_in a) m l) → (is_restoring (order_at a.orders q) ≡ true → place ≡ next_number (order_at a.orders q))
+    → IsOne a t l q w (record { queue = q; number = w.number; slot = w.event.flow % n; place = place })
+one_given n q c all full l a t w ws place core there slots turn quota whole fits best placed =
+    let v : View = view_in a in
+    let h : q < length a.queues = omega (arith, there, core.queues) in
+    let u : Waits = waits_at a.queues q in
+    let sound = (queue_here a q u core h (waits_is a.queues q h)).waits in
+    let few = (slots_range a.shape q core.limits there).1 in
+    let slot : w.event.flow % n ≡ slot_at v q w = found_slot a v q core refl there (w.event.flow % n) w (ap (λ k. w.event.flow % k) slots) in
+    let within = slots_within v q core.limits there w in
+    let first = found_first a v q core refl there c all w (first_at u c all w ws sound whole (full (w.event.flow % u.slots) (omega (arith, slot, within, few, ap (λ k. w.event.flow % k) slots)))) in
+    let offered : IsOfferIn v t q c l w = offer_in v t q c l (w.event.flow % n) all w (all_allowed v t q all (λ k lt. full k (omega (arith, few, lt)))) (slots_within v q core.limits there) first slot fits best in
+    let choice = choice_in_turn v t l q c w turn quota offered in
+    let offer : IsOffer v l q w = choice_is_offer v t l q w choice in
+    let given = given_out a v l q (w.event.flow % n) place w core refl offer slot (set a.queues q (without_number u w.number)) (set a.orders q (handed (order_at a.orders q) w.number))
+    (with_entry a.lanes l (record { queue = q; number = w.number; slot = w.event.flow % n; place = place })) (pinned_on a.pins q (w.event.flow % n) l) refl (waits_without u w.number sound) refl placed refl refl in
+    record { choice = choice; core = given.core; view = given.view }
+
+-- one event and then others
+pub times_on : (t : Passed) (q k : ℕ) → q < length t.given → given_times (given_once t q) q k ≡ given_times t q (k + 1)
+times_on t q k within =
+    ap (λ gs. record t { given = gs })
+    (set-set t.given q (get_or t.given q 0 + 1) (get_or (set t.given q (get_or t.given q 0 + 1)) q 0 + k)
+    ∙ ap (set t.given q) (omega (arith, get_or-set_at t.given q q (get_or t.given q 0 + 1) 0 refl within)))
 
 module _ (n l q c : ℕ) (lanes all : SmallSet) (only : IsOnly lanes l) (full : (slot : ℕ) → slot < 64 → Has all slot) where
-  one_of_row : (a : Inside) (t : Passed) (w : Numbered) (ws : List Numbered) (place : ℕ) → IsCore a → q < length a.shape.queues → has_flow_lanes a.shape q ≡ false → n ≡ (waits_at a.queues q).slots
-      → HasTurn (view_in a) t q c → IsSteady (view_in a) t l q 1 lanes → at_level c (waits_at a.queues q) ≡ w ∷ ws → IsTrue (may_pin (pin_in a.pins q (w.event.flow % n)) l) → (is_restoring (order_at a.orders q) ≡ true → place ≡ next_number (order_at a.orders q))
-      → IsOne a t l q w (record { queue = q; number = w.number; slot = w.event.flow % n; place = place })
-  one_of_row a t w ws place core there ports slots turn steady whole may placed =
-      let v : View = view_in a in
-      let h : q < length a.queues = omega (arith, there, core.queues) in
-      let u : Waits = waits_at a.queues q in
-      let sound = (queue_here a q u core h (waits_is a.queues q h)).waits in
-      let few = (slots_range a.shape q core.limits there).1 in
-      let slot : w.event.flow % n ≡ slot_at v q w = found_slot a v q core refl there (w.event.flow % n) w (ap (λ k. w.event.flow % k) slots) in
-      let within = slots_within v q core.limits there w in
-      let first = found_first a v q core refl there c all w (first_at u c all w ws sound whole (full (w.event.flow % u.slots) (omega (arith, slot, within, few, ap (λ k. w.event.flow % k) slots)))) in
-      let are : AreOpenLanes v t q lanes = steady.opened (omega arith) in
-      let holds : MayHold v lanes q (w.event.flow % n) l = (only.0, may_is_alone a.shape (map unanswered_in a.lanes) a.pins q (w.event.flow % n) l core.pins may) in
-      let offered : IsOfferIn v t q c l w =
-      offer_in v t q c l (w.event.flow % n) all w (all_allowed v t q all (λ k lt. full k (omega (arith, few, lt)))) (slots_within v q core.limits there) first slot
-      (held_fits v t q (w.event.flow % n) lanes (Some l) are holds)
-      (held_best v t q (w.event.flow % n) lanes (Some l) ports are (λ m has. none_better v l m (only.1 m has.0)))
-      in
-      let choice = choice_in_turn v t l q c w turn (let quota = steady.quota in omega arith) offered in
-      let offer : IsOffer v l q w = choice_is_offer v t l q w choice in
-      let given = given_out a v l q (w.event.flow % n) place w core refl offer slot (set a.queues q (without_number u w.number)) (set a.orders q (handed (order_at a.orders q) w.number))
-      (with_entry a.lanes l (record { queue = q; number = w.number; slot = w.event.flow % n; place = place })) (pinned_on a.pins q (w.event.flow % n) l) refl (waits_without u w.number sound) refl placed refl refl in
-      record { choice = choice; core = given.core; view = given.view }
-
   -- ---- the row
 
   pub record AreRow (a b : Inside) (t : Passed) (ds : List Delivery) : Type 0 where
     pub core : IsCore b
     pub choices : AreChoices l (view_in a) t ds (view_in b) (given_times t q (length ds))
-
-  -- one event and then others
-  times_on : (t : Passed) (k : ℕ) → q < length t.given → given_times (given_once t q) q k ≡ given_times t q (k + 1)
-  times_on t k within =
-      ap (λ gs. record t { given = gs })
-      (set-set t.given q (get_or t.given q 0 + 1) (get_or (set t.given q (get_or t.given q 0 + 1)) q 0 + k)
-      ∙ ap (set t.given q) (omega (arith, get_or-set_at t.given q q (get_or t.given q 0 + 1) 0 refl within)))
 
   -- what is steady for several is so for one
   fewer_steady : (v : View) (t : Passed) (k : ℕ) → IsSteady v t l q k lanes → 0 < k → IsSteady v t l q 1 lanes
@@ -120,7 +113,12 @@ module _ (n l q c : ℕ) (lanes all : SmallSet) (only : IsOnly lanes l) (full : 
       let now : IsSteady (view_in a) t l q 1 lanes = fewer_steady (view_in a) t (length (w ∷ hs)) steady (omega arith) in
       let y : Entry = record { queue = q; number = w.number; slot = w.event.flow % n; place = went.0 } in
       let u : Waits = waits_at a.queues q in
-      let one = one_of_row a t w (hs ++ rest) went.0 core there ports slots turn now whole went.1 went.2 in
+      let quota : HasQuota (view_in a) t q = let quota = now.quota in omega arith in
+      let slot : ℕ = w.event.flow % n in
+      let are : AreOpenLanes (view_in a) t q lanes = now.opened (omega arith) in
+      let holds : MayHold (view_in a) lanes q slot l = (only.0, may_is_alone a.shape (map unanswered_in a.lanes) a.pins q slot l core.pins went.1) in
+      let best : (m : ℕ) → MayHold (view_in a) lanes q slot m → ¬ IsBetterLane (view_in a) m l = λ m held. not_itself (loads_at (view_in a)) l m (sym (only.1 m held.0)) in
+      let one = one_given n q c all full l a t w (hs ++ rest) went.0 core there slots turn quota whole (held_fits (view_in a) t q slot lanes (Some l) are holds) (held_best (view_in a) t q slot lanes (Some l) ports are best) went.2 in
       let b : Inside = with_parts a (set a.queues q (without_number u w.number)) (set a.orders q (handed (order_at a.orders q) w.number)) (pinned_on a.pins q y.slot l) (with_entry a.lanes l y) in
       let h : q < length a.queues = omega (arith, there, core.queues) in
       let at : waits_at b.queues q ≡ without_number u w.number = get_or-set_same a.queues q (without_number u w.number) (no_waits 1 0) h in
@@ -142,7 +140,7 @@ module _ (n l q c : ℕ) (lanes all : SmallSet) (only : IsOnly lanes l) (full : 
           subst (λ k. IsChoice (view_in a) t l k w) (sym here) one.choice,
           subst (λ k. AreChoices l (after (view_in a) (Give l k w.number ∷ [])) (given_once t k) (map named_delivery hs) (view_in (with_parts a qs os ps ls)) (given_times t q (length (map named_delivery (w ∷ hs))))) (sym here)
               (subst (λ x. AreChoices l x (given_once t q) (map named_delivery hs) (view_in (with_parts a qs os ps ls)) (given_times t q (length (map named_delivery (w ∷ hs))))) one.view
-              (subst (AreChoices l (view_in b) (given_once t q) (map named_delivery hs) (view_in (with_parts a qs os ps ls))) (times_on t (length (map named_delivery hs)) within ∙ ap (given_times t q) (omega arith)) on.choices)),
+              (subst (AreChoices l (view_in b) (given_once t q) (map named_delivery hs) (view_in (with_parts a qs os ps ls))) (times_on t q (length (map named_delivery hs)) within ∙ ap (given_times t q) (omega arith)) on.choices)),
         );
       }
 

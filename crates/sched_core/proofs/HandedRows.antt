@@ -6,6 +6,7 @@ use Rattle.std.proofs.lemmas.List.{get_or-set_other, get_or-set_same, length-set
 use Rattle.evt_types.specs.declared.event.Delivery.{Delivery}
 use Rattle.evt_types.specs.declared.shape.TheConstants.{MAX_DEPTH}
 use Rattle.order_parts.specs.HandedRow.{AreHandedOn}
+use Rattle.order_parts.specs.Dealing.{with_entry}
 use Rattle.order_parts.specs.Histories.{lane_in}
 use Rattle.order_parts.specs.History.{Entries, entries_of}
 use Rattle.order_parts.specs.Orders.{handed, is_restoring, order_at}
@@ -13,7 +14,7 @@ use Rattle.order_parts.specs.Pins.{Pin, free, may_pin, pin_at, pinned}
 use Rattle.order_parts.specs.QueuePins.{pin_in, pins_at}
 use Rattle.order_parts.specs.Reorder.{Reordering, after_hand, empty, next_number, open_place}
 use Rattle.order_parts.specs.declared.history.Entry.{Entry}
-use Rattle.sched_core.specs.GiftRows.{AreHanded, pinned_on, slot_in_row, with_entry}
+use Rattle.sched_core.specs.GiftRows.{AreHanded, pinned_on, slot_in_row}
 
 pub handed_push : (n l q : ℕ) (os : List Reordering) (ps : List (List Pin)) (ls : List Entries) (ds : List Delivery) (d : Delivery) (ot : List Reordering) (pt : List (List Pin)) (lt : List Entries) (place : ℕ) → AreHanded n l q os ps ls ds ot pt lt
     → IsTrue (may_pin (pin_in pt q (slot_in_row n d)) l) → (is_restoring (order_at ot q) ≡ true → place ≡ next_number (order_at ot q))

@@ -4,6 +4,7 @@ pub mod Adding
 pub mod Answering
 pub mod AtFront
 pub mod Cores
+pub mod Deals
 pub mod Counted
 pub mod FirstOnes
 pub mod Forwarded

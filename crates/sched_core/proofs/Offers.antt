@@ -27,20 +27,6 @@ use Rattle.sched_core.specs.View.{view_in}
 use Rattle.sched_core.specs.declared.state.Core.TheInside.{Inside}
 use Rattle.sched_core.specs.declared.offer.Offer.{Offer}
 
--- ---- the better one of two lanes
-
-pub not_itself : (v : View) (l m : ℕ) → l ≡ m → ¬ IsBetterLane v m l
-not_itself v l m same (inl fewer) = let e = ap (λ k. length (unanswered_at v k)) same in omega arith
-not_itself v l m same (inr lower) = let lt = lower.1 in omega arith
-
-pub not_better : (v : View) (b n : ℕ) → length (unanswered_at v b) ≤ length (unanswered_at v n) → b < n → ¬ IsBetterLane v n b
-not_better v b n le below (inl fewer) = omega arith
-not_better v b n le below (inr lower) = let lt = lower.1 in omega arith
-
-pub not_better_too : (v : View) (b n m : ℕ) → length (unanswered_at v n) < length (unanswered_at v b) → ¬ IsBetterLane v m b → ¬ IsBetterLane v m n
-not_better_too v b n m gt worse (inl fewer) = worse (inl (omega arith))
-not_better_too v b n m gt worse (inr lower) = let e = lower.0 in worse (inl (omega arith))
-
 -- ---- the event of a level
 
 pub none_of : {X : Type 0} (o : Option X) (P : Type 0) → is_some o ≡ false → IfNone o P → P

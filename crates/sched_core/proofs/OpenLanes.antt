@@ -1,29 +1,31 @@
 -- Which lanes are open to a queue, and the best of them: a walk over a set of lanes, the lane of a pinned slot, and what flow lanes serve.
-use Rattle.std.proofs.Common.{◌≡◌, ◌≢◌, ℕ, ◌+◌, ◌*◌, ◌/◌, ◌%◌, ◌^◌, ◌<◌, ◌≤◌, Bool, true, false, cond, nat_le, [], length, map, get_or, Option, Some, None, inl, inr, ◌⊎◌, ⊎_elim, refl, sym, ap, ◌∙◌, subst, arith}
+use Rattle.std.proofs.Common.{◌≡◌, ◌≢◌, ℕ, ◌+◌, ◌*◌, ◌/◌, ◌%◌, ◌^◌, ◌<◌, ◌≤◌, true, false, [], length, map, get_or, Option, Some, None, IsTrue, inl, inr, ◌⊎◌, ⊎_elim, refl, sym, ap, ◌∙◌, subst, arith}
 use Rattle.std.specs.Prelude.{◌↔◌}
 use Rattle.std.specs.Option.{IfSome, IfNone}
-use Rattle.std.proofs.lemmas.Bool.{and_parts, cond-true, cases_eq, cases_lt, false≢true, false_from_ne_true, leb-true, leb-false}
+use Rattle.std.proofs.lemmas.Bool.{and_parts, cond-true, cases_eq, cases_lt, false≢true, false_from_ne_true}
 use Rattle.evt_types.proofs.FlowLanes.{serves_port, port_is_lane}
-use Rattle.evt_types.specs.Plan.{Plan, depth_of, is_flows, has_flow_lanes, serves, queue_of, is_atomic}
+use Rattle.evt_types.specs.Plan.{Plan, depth_of, is_flows, has_flow_lanes, lanes_of, serves, queue_of, is_atomic}
 use Rattle.std.proofs.lemmas.List.{length-map}
 use Rattle.std.proofs.lemmas.Nat.{div-mul-add, mod-mul-add}
 use Rattle.std.proofs.lemmas.Nat.Bits.{bit_at_above}
 use Rattle.lists.specs.Lists.{has}
 use Rattle.small_set.specs.SmallSets.{Has, IsEmpty, IsFirst, SameBut}
 use Rattle.small_set.specs.declared.set.SmallSet.{SmallSet}
-use Rattle.sched_core.proofs.Offers.{fits_slot, not_itself, not_better, not_better_too}
+use Rattle.sched_core.proofs.Offers.{fits_slot}
 use Rattle.sched_core.proofs.News.{slots_range}
 use Rattle.sched_core.proofs.OpenSlots.{by_flow, by_port}
-use Rattle.sched_core.proofs.Pinned.{alone_may, free_may, may_is_alone, may_is_holder, stands_on}
+use Rattle.order_parts.proofs.Holders.{stands_on}
+use Rattle.sched_core.proofs.Pinned.{alone_may, may_is_alone}
 use Rattle.order_parts.specs.History.{entries_of}
-use Rattle.order_parts.specs.Pins.{IsOn, holder_of, may_pin}
+use Rattle.order_parts.specs.Pins.{IsOn, may_pin}
 use Rattle.sched_core.proofs.Cores.{unanswered_here}
 use Rattle.order_parts.proofs.Roomy.{lane_is}
 use Rattle.order_parts.specs.Histories.{AreRoomy, HasRoom, lane_in}
 use Rattle.sched_core.specs.Inner.{unplaced}
 use Rattle.sched_core.specs.Links.{AreLinksOf}
-use Rattle.sched_core.specs.Offered.{AreOpenLanes, FitsSlot, HasAllowed, HasPlace, IsOpenLane, MayHold, better_of, slot_at}
-use Rattle.order_parts.specs.QueuePins.{pin_in}
+use Rattle.order_parts.specs.Dealing.{HasFewer, IsBestOf, loads_in}
+use Rattle.sched_core.specs.Offered.{AreOpenLanes, FitsSlot, HasAllowed, HasPlace, IsOpenLane, MayHold, loads_at, slot_at}
+use Rattle.order_parts.specs.QueuePins.{pin_in, pins_at}
 use Rattle.sched_core.specs.View.{view_in, unanswered_in, IsCore}
 use Rattle.sched_core.specs.declared.state.Core.TheInside.{Inside}
 use Rattle.sched_core.specs.SlotLanes.{IsSlotLane, slot_lane_count}
@@ -32,57 +34,6 @@ use Rattle.transcripts.proofs.FlowAlone.{one_lane}
 use Rattle.transcripts.specs.Choice.{Passed, HasNone, HasNoOther, IsBetterLane, IsChoice, has_bounced}
 use Rattle.transcripts.specs.Standing.{View, unanswered_at}
 
--- ---- a walk over lanes
-
--- the best one of the lanes that were walked over: all but those that are left, which come after it
-pub record IsWalked (v : View) (lanes left : SmallSet) (best : ℕ) : Type 0 where
-  pub among : (m : ℕ) → Has left m → Has lanes m
-  pub there : Has lanes best
-  pub later : (m : ℕ) → Has left m → best < m
-  pub least : (m : ℕ) → Has lanes m → ¬ Has left m → ¬ IsBetterLane v m best
-
-module _ (v : View) (lanes left rest : SmallSet) (k : ℕ) (first : IsFirst left k) (gone : Has rest k → ⊥) (others : SameBut k left rest) where
-  stayed : (m : ℕ) → Has rest m → Has left m × (m ≢ k)
-  stayed m has = let apart : m ≢ k = λ e. gone (subst (Has rest) e has) in ((others m apart).0 has, apart)
-
-  after : (m : ℕ) → Has rest m → k < m
-  after m has = let was = stayed m has in let le = first.first m was.0 in let ne = was.1 in omega (arith, le, λ (e : k ≡ m). ne (sym e))
-
-  walked : (m : ℕ) → ¬ Has rest m → (m ≡ k) ⊎ ¬ Has left m
-  walked m past = ⊎_elim (λ e. inl e) (λ ne. inr (λ has. past ((others m ne).1 has))) (cases_eq m k)
-
-  -- the first one alone
-  pub walk_first : ((m : ℕ) → Has left m → Has lanes m) → ((m : ℕ) → Has lanes m → Has left m) → IsWalked v lanes rest k
-  walk_first among all =
-      record {
-        among = λ m has. among m (stayed m has).0;
-        there = among k first.there;
-        later = after;
-        least = λ m has past. ⊎_elim (λ e. not_itself v k m (sym e)) (λ out. absurd (out (all m has))) (walked m past);
-      }
-
-  -- one more
-  pub walk_on : (best : ℕ) → IsWalked v lanes left best → IsWalked v lanes rest (better_of v best k)
-  walk_on b w = by_case (nat_le (length (unanswered_at v b)) (length (unanswered_at v k))) refl
-    where
-      by_case : (t : Bool) → nat_le (length (unanswered_at v b)) (length (unanswered_at v k)) ≡ t → IsWalked v lanes rest (cond t b k)
-      by_case true h =
-          let le : length (unanswered_at v b) ≤ length (unanswered_at v k) = leb-true _ _ h in
-          record {
-            among = λ m has. w.among m (stayed m has).0;
-            there = w.there;
-            later = λ m has. w.later m (stayed m has).0;
-            least = λ m has past. ⊎_elim (λ e. subst (λ n. ¬ IsBetterLane v n b) (sym e) (not_better v b k le (w.later k first.there))) (λ out. w.least m has out) (walked m past);
-          }
-      by_case false h =
-          let gt : length (unanswered_at v k) < length (unanswered_at v b) = leb-false _ _ h in
-          record {
-            among = λ m has. w.among m (stayed m has).0;
-            there = w.among k first.there;
-            later = after;
-            least = λ m has past. ⊎_elim (λ e. not_itself v k m (sym e)) (λ out. not_better_too v b k m gt (w.least m has out)) (walked m past);
-          }
-
 -- ---- the lane of a pinned slot
 
 -- of the lanes those may hold the slot that its pin allows
@@ -90,22 +41,9 @@ module _ (a : Inside) (v : View) (lanes : SmallSet) (q slot : ℕ) (core : IsCor
   pub may_hold : (l : ℕ) → Has lanes l → may_pin (pin_in a.pins q slot) l ≡ true → MayHold v lanes q slot l
   may_hold l has may = subst (λ w. MayHold w lanes q slot l) view (has, may_is_alone a.shape (map unanswered_in a.lanes) a.pins q slot l core.pins may)
 
-  hold_may : (l : ℕ) → MayHold v lanes q slot l → may_pin (pin_in a.pins q slot) l ≡ true
+  pub hold_may : (l : ℕ) → MayHold v lanes q slot l → may_pin (pin_in a.pins q slot) l ≡ true
   hold_may l held =
       alone_may a.shape (map unanswered_in a.lanes) a.pins q slot l core.pins (subst (λ (w : View). q < length w.shape.queues) (sym view) queue) (subst (λ w. MayHold w lanes q slot l) (sym view) held).1
-
-  -- where a lane has the slot, no other may hold it
-  pub hold_is_holder : (h l : ℕ) → holder_of (pin_in a.pins q slot) ≡ Some h → MayHold v lanes q slot l → l ≡ h
-  hold_is_holder h l e held = may_is_holder (pin_in a.pins q slot) h l e (hold_may l held)
-
-  -- where none has it, each may
-  pub free_holds : holder_of (pin_in a.pins q slot) ≡ None → (o : Option ℕ) → IfSome o (Has lanes) → IfSome o (MayHold v lanes q slot)
-  free_holds e None there = tt
-  free_holds e (Some l) there = may_hold l there (free_may (pin_in a.pins q slot) l e)
-
--- a set has numbers below 64 alone
-pub has_low : (lanes : SmallSet) (l : ℕ) → lanes.bits < 2 ^ 64 → Has lanes l → l < 64
-has_low lanes l fits has = ⊎_elim (λ lt. lt) (λ ge. let zero = bit_at_above lanes.bits 64 l fits ge in absurd (omega arith)) (cases_lt l 64)
 
 -- ---- who serves a queue
 
@@ -156,6 +94,28 @@ shut_open v s q lanes none full l = (λ has. absurd (none l has), λ opened. abs
 -- how many events of a lane are unanswered
 pub held_here : (a : Inside) (l : ℕ) → l < length a.lanes → length (unanswered_at (view_in a) l) ≡ length (lane_in a.lanes l).entries
 held_here a l h = ap length (unanswered_here a l (lane_in a.lanes l) h (lane_is a.lanes l h)) ∙ length-map (lane_in a.lanes l).entries unplaced
+
+-- the best lane of some for a slot, by the pins and histories, is the best one to clauses
+module _ (a : Inside) (v : View) (lanes : SmallSet) (q slot : ℕ) (core : IsCore a) (view : view_in a ≡ v) (queue : q < length v.shape.queues) (there : (l : ℕ) → Has lanes l → l < lanes_of v.shape) where
+  loads_here : (l : ℕ) → Has lanes l → loads_at v l ≡ loads_in a.lanes l
+  loads_here l has =
+      sym (ap (λ (w : View). loads_at w l) view) ∙ held_here a l (omega (arith, there l has, core.lanes, ap (λ (w : View). lanes_of w.shape) view))
+
+  pub fewer_here : (m l : ℕ) → Has lanes m → Has lanes l → IsBetterLane v m l → HasFewer (loads_in a.lanes) m l
+  fewer_here m l has_m has_l (inl fewer) = inl (omega (arith, fewer, loads_here m has_m, loads_here l has_l))
+  fewer_here m l has_m has_l (inr lower) = let e = lower.0 in inr (omega (arith, e, loads_here m has_m, loads_here l has_l), lower.1)
+
+  pub best_holds : (o : Option ℕ) → IfSome o (IsBestOf (pins_at a.pins q) a.lanes lanes slot) → IfSome o (MayHold v lanes q slot)
+  best_holds None is = tt
+  best_holds (Some l) is = may_hold a v lanes q slot core view queue l is.there is.may
+
+  pub best_here : (o : Option ℕ) → IfSome o (IsBestOf (pins_at a.pins q) a.lanes lanes slot) → IfSome o (λ l. (m : ℕ) → MayHold v lanes q slot m → ¬ IsBetterLane v m l)
+  best_here None is = tt
+  best_here (Some l) is = λ m held better. is.best m held.0 (hold_may a v lanes q slot core view queue m held) (fewer_here m l held.0 is.there better)
+
+  pub none_holds : (o : Option ℕ) → IfNone o ((l : ℕ) → Has lanes l → ¬ IsTrue (may_pin (pin_in a.pins q slot) l)) → IfNone o ((l : ℕ) → ¬ MayHold v lanes q slot l)
+  none_holds None none = λ l held. none l held.0 (hold_may a v lanes q slot core view queue l held)
+  none_holds (Some l) none = tt
 
 -- the room of a lane, by its history
 pub room_here : (a : Inside) (l : ℕ) → IsCore a → l < length a.lanes → HasRoom a.lanes l ↔ (length (unanswered_at (view_in a) l) < depth_of a.shape l)

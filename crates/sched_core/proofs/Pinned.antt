@@ -15,7 +15,8 @@ use Rattle.transcripts.specs.Transcript.{Held}
 use Rattle.evt_types.specs.declared.draft.QueueDraft.{QueueDraft}
 use Rattle.evt_types.specs.declared.event.Kind.{Kind}
 use Rattle.evt_types.specs.declared.event.Kind.TheVariants.{Atomic, Ordered, Parallel}
-use Rattle.order_parts.specs.Pins.{Pin, free, holder_of, pin_at, may_pin, pinned, unpinned}
+use Rattle.order_parts.proofs.Holders.{may_parts}
+use Rattle.order_parts.specs.Pins.{Pin, free, pin_at, may_pin, pinned, unpinned}
 use Rattle.sched_core.specs.Pinned.{entries_at, is_of, count_of, count_on, ArePins}
 use Rattle.order_parts.specs.QueuePins.{slots_of, pins_at, pin_in, with_pin, AreFreePins}
 
@@ -85,22 +86,6 @@ count_on_none l x none = by_case (cases_eq x.lane l)
     by_case (inl e) = count_on_its l x e ∙ none
     by_case (inr differs) = count_on_other l x differs
 
--- where a lane may have an event more, it has all that there are
-may_parts : (l : ℕ) (x : Pin) → may_pin x l ≡ true → (x.count ≡ 0) ⊎ (x.lane ≡ l)
-may_parts l x may = by_case (or_cases (x.count == 0) (x.lane == l) may)
-  where
-    by_case : ((x.count == 0) ≡ true) ⊎ ((x.lane == l) ≡ true) → (x.count ≡ 0) ⊎ (x.lane ≡ l)
-    by_case (inl e) = inl (eqb-true x.count 0 e)
-    by_case (inr e) = inr (eqb-true x.lane l e)
-
--- where there are any, they stand on a lane that may have one more
-pub stands_on : (l : ℕ) (x : Pin) → may_pin x l ≡ true → 0 < x.count → x.lane ≡ l
-stands_on l x may some = by_case (may_parts l x may)
-  where
-    by_case : (x.count ≡ 0) ⊎ (x.lane ≡ l) → x.lane ≡ l
-    by_case (inl none) = absurd (omega (arith, none, some))
-    by_case (inr e) = e
-
 count_on_may : (l : ℕ) (x : Pin) → may_pin x l ≡ true → count_on l x ≡ x.count
 count_on_may l x may = by_case (may_parts l x may)
   where
@@ -122,35 +107,6 @@ lane_of_some l x some = by_case (cases_eq x.lane l)
     by_case : (x.lane ≡ l) ⊎ (x.lane ≢ l) → x.lane ≡ l
     by_case (inl e) = e
     by_case (inr differs) = let none = count_on_other l x differs in absurd (omega arith)
-
--- ---- who has the slot
-
-none_of : {X : Type 0} (b : Bool) (x : X) → cond b None (Some x) ≡ None → b ≡ true
-none_of true x e = refl
-none_of false x e = absurd cc
-
-some_of : {X : Type 0} (b : Bool) (x y : X) → cond b None (Some x) ≡ Some y → (b ≡ false) × (x ≡ y)
-some_of true x y e = absurd cc
-some_of false x y e = (refl, same_Some x y e)
-
--- a slot that no lane has may go to any
-pub free_may : (x : Pin) (l : ℕ) → holder_of x ≡ None → may_pin x l ≡ true
-free_may x l e = or_left (x.count == 0) (x.lane == l) (none_of (x.count == 0) x.lane e)
-
--- one that a lane has may go to that lane
-pub holder_may : (x : Pin) (l : ℕ) → holder_of x ≡ Some l → may_pin x l ≡ true
-holder_may x l e = or_right (x.count == 0) (x.lane == l) (eq-eqb x.lane l (some_of (x.count == 0) x.lane l e).1)
-
--- and to no other
-pub may_is_holder : (x : Pin) (h l : ℕ) → holder_of x ≡ Some h → may_pin x l ≡ true → l ≡ h
-may_is_holder x h l e may = by_case (or_cases (x.count == 0) (x.lane == l) may)
-  where
-    has : ((x.count == 0) ≡ false) × (x.lane ≡ h)
-    has = some_of (x.count == 0) x.lane h e
-
-    by_case : ((x.count == 0) ≡ true) ⊎ ((x.lane == l) ≡ true) → l ≡ h
-    by_case (inl zero) = absurd (false≢true (sym has.0 ∙ zero))
-    by_case (inr same) = sym (eqb-true x.lane l same) ∙ has.1
 
 -- ---- one pin that changes
 

@@ -1,5 +1,5 @@
 -- A run of gifts: what a gift leaves of the choice, and the choices one after another.
-use Rattle.std.proofs.Common.{◌≡◌, ◌≢◌, ℕ, ◌<◌, ◌≤◌, ◌+◌, Bool, true, false, cond, not, nat_lt, ◌&&◌, ◌||◌, ◌==◌, List, [], ◌∷◌, ◌++◌, length, filter, set, get_or, All, Contains, inl, inr, ⊎_elim, refl, sym, ap, ◌∙◌, subst, append_assoc, append-nil, arith}
+use Rattle.std.proofs.Common.{◌≡◌, ◌≢◌, ◌↔◌, ℕ, ◌<◌, ◌≤◌, ◌+◌, Bool, true, false, cond, not, nat_lt, ◌&&◌, ◌||◌, ◌==◌, List, [], ◌∷◌, ◌++◌, length, filter, set, get_or, All, Contains, inl, inr, ⊎_elim, refl, sym, ap, ◌∙◌, subst, append_assoc, append-nil, arith}
 use Rattle.std.proofs.lemmas.Bool.{cases_eq, false≢true, lt-ltb}
 use Rattle.std.proofs.lemmas.Grind.{get_or-set_at}
 use Rattle.std.proofs.lemmas.List.{get_or-set_other, get_or-set_same, length-append, map_push, set-get_or}
@@ -15,7 +15,8 @@ use Rattle.sched_core.proofs.Offers.{IsOfferAt, choice_is_offer, not_earlier}
 use Rattle.sched_core.specs.Offered.{AreOpenLanes, HasPlace, IsOfferIn, IsOpenLane, numbered_in}
 use Rattle.sched_core.specs.Sized.{IsSized}
 use Rattle.sched_core.specs.declared.offer.Offer.{Offer}
-use Rattle.sched_core.specs.Runs.{AreChoices, AreGiven, IsSteady, HasTurn, gift_of, gifts_of, given_once, given_times}
+use Rattle.sched_core.specs.Runs.{AreChoices, AreGiven, HasLeft, HasTurn, IsSteady, gift_of, gifts_of, given_once, given_times}
+use Rattle.small_set.specs.SmallSets.{Has}
 use Rattle.small_set.specs.declared.set.SmallSet.{SmallSet}
 use Rattle.step_log.specs.Gives.{gives_of}
 use Rattle.transcripts.proofs.WholeStands.{stands_give}
@@ -35,6 +36,10 @@ room_given gs hs i q n m s t room left there few long is enough less counted sam
 -- what is in a part of a list is in the list
 less_contains : {X : Type 0} (p : X → Bool) (xs : List X) (x : X) → Contains (filter p xs) x → Contains xs x
 less_contains p xs x has = All-contains (Contains xs) (filter p xs) x (All-filter p (Contains xs) xs (All-contains_itself xs)) has
+
+-- of these lanes those are open to the queue that have room
+abbrev pub AreServing : View → Passed → ℕ → SmallSet → Type 0
+AreServing v s q lanes = (l : ℕ) → IsOpenLane v s q l ↔ (Has lanes l × (length (unanswered_at v l) < depth_of v.shape l))
 
 module _ (v : View) (s : Passed) (l q : ℕ) (w : Numbered) (sized : IsSized v) (offer : IsOffer v l q w) where
   waits_before : (r : ℕ) (u : Numbered) → WaitsIn (after_give v l q w.number) r u → WaitsIn v r u
@@ -140,6 +145,14 @@ module _ (v : View) (s : Passed) (l q : ℕ) (w : Numbered) (sized : IsSized v) 
           )
       by_kind false = omega arith
 
+  -- one event fewer is left
+  left_after : (more : ℕ) → q < length s.given → HasLeft v s q (more + 1) → HasLeft (after_give v l q w.number) (given_once s q) q more
+  left_after more within left =
+      record {
+        quota = let quota = left.quota in omega (arith, get_or-set_at s.given q q (get_or s.given q 0 + 1) 0 refl within);
+        places = λ ordered. let places = left.places ordered in let one = place_one in omega arith;
+      }
+
   -- while no count is full, the same lanes are open
   steady_after : (more : ℕ) (lanes : SmallSet) → q < length s.given → IsSteady v s l q (more + 1) lanes → IsSteady (after_give v l q w.number) (given_once s q) l q more lanes
   steady_after more lanes within steady =
@@ -194,6 +207,29 @@ module _ (v : View) (s : Passed) (l q : ℕ) (w : Numbered) (sized : IsSized v) 
             room = ⊎_elim (λ e. subst (λ k. length (unanswered_at (after_give v l q w.number) k) < depth_of v.shape k) (sym e) room) (λ ne. let room = is.room in omega (arith, out_other m ne)) (cases_eq m l);
             places = place;
           }
+
+  -- where the queue has a place more, those of the lanes are open that have room
+  serving_after : (lanes : SmallSet) → AreServing v s q lanes → HasPlace (after_give v l q w.number) q → AreServing (after_give v l q w.number) (given_once s q) q lanes
+  serving_after lanes are place m = (
+    λ is. (((are m).0 (before is)).0, is.room),
+    λ both. opened ((are m).1 (both.0, less both.1)) both.1,
+  )
+    where
+      less : length (unanswered_at (after_give v l q w.number) m) < depth_of v.shape m → length (unanswered_at v m) < depth_of v.shape m
+      less room = let fewer = more_out m in omega arith
+
+      before : IsOpenLane (after_give v l q w.number) (given_once s q) q m → IsOpenLane v s q m
+      before is =
+          record {
+            lane = is.lane;
+            ready = is.ready;
+            linked = is.linked;
+            room = less is.room;
+            places = λ ordered. let fewer = more_places q in let has = is.places ordered in omega arith;
+          }
+
+      opened : IsOpenLane v s q m → length (unanswered_at (after_give v l q w.number) m) < depth_of v.shape m → IsOpenLane (after_give v l q w.number) (given_once s q) q m
+      opened is room = record { lane = is.lane; ready = is.ready; linked = is.linked; room = room; places = place }
 
   none_after : (r : ℕ) → HasNone v s r → HasNone (after_give v l q w.number) (given_once s q) r
   none_after r none u waits m fits = none u (waits_before r u waits) m (fits_before m r u fits)
@@ -311,6 +347,10 @@ pub steady_on : (l q more : ℕ) (lanes : SmallSet) (w x : View) (t y : Passed) 
 steady_on l q more lanes w x t y u sized offer within steady view given =
     subst (λ z. IsSteady z y l q more lanes) (sym view) (subst (λ z. IsSteady (after_give w l q u.number) z l q more lanes) (sym given) (steady_after w t l q u sized offer more lanes within steady))
 
+pub left_on : (l q more : ℕ) (w x : View) (t y : Passed) (u : Numbered) → IsSized w → IsOffer w l q u → q < length t.given → HasLeft w t q (more + 1) → x ≡ after w (Give l q u.number ∷ []) → y ≡ given_once t q → HasLeft x y q more
+left_on l q more w x t y u sized offer within left view given =
+    subst (λ z. HasLeft z y q more) (sym view) (subst (λ z. HasLeft (after_give w l q u.number) z q more) (sym given) (left_after w t l q u sized offer more within left))
+
 -- the same lanes are open after a gift
 pub open_on : (l q : ℕ) (lanes : SmallSet) (w x : View) (t y : Passed) (u : Numbered) → IsSized w → IsOffer w l q u → AreOpenLanes w t q lanes → x ≡ after w (Give l q u.number ∷ []) → y ≡ given_once t q → HasPlace x q
     → length (unanswered_at x l) < depth_of x.shape l → AreOpenLanes x y q lanes
@@ -318,6 +358,10 @@ open_on l q lanes w x t y u sized offer are view given place room =
     subst (λ z. AreOpenLanes z y q lanes) (sym view)
     (subst (λ z. AreOpenLanes (after_give w l q u.number) z q lanes) (sym given)
     (open_after w t l q u sized offer lanes are (subst (λ z. HasPlace z q) view place) (subst (λ z. length (unanswered_at z l) < depth_of z.shape l) view room)))
+
+pub serving_on : (l q : ℕ) (lanes : SmallSet) (w x : View) (t y : Passed) (u : Numbered) → IsSized w → IsOffer w l q u → AreServing w t q lanes → x ≡ after w (Give l q u.number ∷ []) → y ≡ given_once t q → HasPlace x q → AreServing x y q lanes
+serving_on l q lanes w x t y u sized offer are view given place =
+    subst (λ z. AreServing z y q lanes) (sym view) (subst (λ z. AreServing (after_give w l q u.number) z q lanes) (sym given) (serving_after w t l q u sized offer lanes are (subst (λ z. HasPlace z q) view place)))
 
 -- ---- what goes on with a run, before it is counted and logged
 

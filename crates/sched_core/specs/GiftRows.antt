@@ -1,8 +1,8 @@
 -- What is kept beside the waiting events, once a row of events of a queue is handed to a lane.
-use Rattle.std.specs.Prelude.{ℕ, ◌≡◌, ◌%◌, List, [], ◌∷◌, ◌++◌, true, IsTrue, slice_set}
+use Rattle.std.specs.Prelude.{ℕ, ◌≡◌, ◌%◌, List, [], ◌∷◌, true, IsTrue, slice_set}
 use Rattle.evt_types.specs.declared.event.Delivery.{Delivery}
-use Rattle.order_parts.specs.Histories.{lane_in}
-use Rattle.order_parts.specs.History.{Entries, entries_of}
+use Rattle.order_parts.specs.Dealing.{with_entry}
+use Rattle.order_parts.specs.History.{Entries}
 use Rattle.order_parts.specs.Orders.{handed, is_restoring, order_at}
 use Rattle.order_parts.specs.Pins.{Pin, may_pin, pinned}
 use Rattle.order_parts.specs.QueuePins.{pin_in, with_pin}
@@ -16,10 +16,6 @@ slot_in_row n d = d.event.flow % n
 -- the pins, once an event of the slot is handed to the lane
 abbrev pub pinned_on : List (List Pin) → ℕ → ℕ → ℕ → List (List Pin)
 pinned_on ps q slot l = with_pin ps q slot (pinned (pin_in ps q slot) l)
-
--- the lane's history with one entry more
-abbrev pub with_entry : List Entries → ℕ → Entry → List Entries
-with_entry ls l y = slice_set ls l (entries_of ((lane_in ls l).entries ++ y ∷ []) (lane_in ls l).capacity)
 
 -- The orders, pins and histories, once each of these events of the queue, which has so many slots, is handed to the lane: one after the
 -- other the lane may have its slot, and an ordered queue's has the next place.

@@ -1,5 +1,5 @@
 -- What is offered, and to whom.
-use Rattle.std.specs.Prelude.{ℕ, ◌≡◌, ◌<◌, ◌≤◌, ◌↔◌, false, true, length, nat_le, if◌then◌else◌}
+use Rattle.std.specs.Prelude.{ℕ, ◌≡◌, ◌<◌, ◌≤◌, ◌↔◌, false, true, length}
 use Rattle.transcripts.specs.Choice.{Passed, Fits, HasNoOther, IsBetterLane, WaitsIn, has_bounced, is_earlier}
 use Rattle.evt_types.specs.Plan.{lanes_of, depth_of, queue_of, level_of, serves, slot_of, is_atomic, is_ordered}
 use Rattle.transcripts.specs.Standing.{View, places_at, unanswered_at}
@@ -88,6 +88,6 @@ pub record IsOfferOf (v : View) (s : Passed) (q l : ℕ) (w : Numbered) : Type 0
   pub best : (m : ℕ) → Fits v s m q w → ¬ IsBetterLane v m l
   pub first : (u : Numbered) (m : ℕ) → WaitsIn v q u → Fits v s m q u → is_earlier u w ≡ false
 
--- of the lane found so far and a later one, the one with fewer unanswered events
-abbrev pub better_of : View → ℕ → ℕ → ℕ
-better_of v b l = if nat_le (length (unanswered_at v b)) (length (unanswered_at v l)) then b else l
+-- how many unanswered events each lane has
+abbrev pub loads_at : View → ℕ → ℕ
+loads_at v l = length (unanswered_at v l)

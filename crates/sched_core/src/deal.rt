@@ -1,15 +1,21 @@
-//! Where several lanes are open, events of a queue and level are dealt among them, one by one.
+//! Where several lanes are open, the first events of a queue and level are dealt among them as a row.
 
-ghost use Rattle.std.specs.Prelude.{◌≡◌, ◌<◌, ◌≤◌, ◌+◌, List, [], ◌∷◌, ◌++◌, IfSome};
-ghost use Rattle.evt_types.specs.declared.step.Step.{Step as StepValue};
-ghost use Rattle.sched_core.specs.Offered.{numbered_in};
-ghost use Rattle.sched_core.specs.Runs.{AreChoices, HasSlot, IsChoiceAmong, gift_of};
+ghost use Rattle.std.specs.Prelude.{◌≡◌, ℕ, ◌+◌, ◌-◌, ◌<◌, ◌≤◌, [], ◌++◌, List, All, true, false, length, take, slice_index, IfSome, IsTrue};
+ghost use Rattle.evt_types.specs.Plan.{depth_of, has_flow_lanes};
+ghost use Rattle.evt_types.specs.declared.shape.TheConstants.{MAX_QUEUES};
+ghost use Rattle.sched_core.specs.Offered.{AreOpenLanes, numbered_in};
+ghost use Rattle.sched_core.specs.Runs.{AreDeals, AreDealtOut, HasLeft, HasTurn, IsChoiceAmong, gifts_to, times};
+ghost use Rattle.small_set.specs.SmallSets.{Has};
 ghost use Rattle.transcripts.specs.Choice.{IsChoice};
-ghost use Rattle.transcripts.specs.Standing.{Stands};
+ghost use Rattle.transcripts.specs.Standing.{unanswered_at};
 
-use crate::offer::{Offer, numbered};
+use crate::offer::Offer;
+use crate::run::MAX_RUN;
 use crate::skips::Skips;
 use crate::state::Core;
+use arrayvec::ArrayVec;
+use evt_types::Delivery;
+use parked_queue::Level;
 use small_set::{MAX_MEMBERS, SmallSet};
 use step_log::StepLog;
 
@@ -19,7 +25,6 @@ impl Core {
     #[inline(always)]
     pub fn deals(&self, offer: &Offer, skips: &Skips) -> Option<SmallSet>
         requires choice { IsChoice self.now skips.now offer.now.lane offer.now.delivery.queue (numbered_in offer.now.delivery) }
-        requires slot { HasSlot self.now offer.now }
         ensures { IfSome result (λ among. IsChoiceAmong self.now skips.now among offer.now) }
     {
         let queue = offer.delivery.queue();
@@ -37,41 +42,94 @@ impl Core {
         Some(among)
     }
 
-    /// Gives what was proposed, as a run of one event. What is given next, where that is quick to see: the first event of the same queue
-    /// and level, as long as the same lanes are open.
+    /// How many events of the queue may be given before a count of its own is full that the choice asks for: of those that were given in
+    /// the sweep, and of an ordered queue's places.
     #[inline(always)]
-    pub fn give_dealt<L: StepLog>(
-        &mut self,
-        offer: Offer,
-        among: SmallSet,
-        skips: &mut Skips,
-        log: &mut L,
-    ) -> Option<Offer>
-        requires choice { IsChoiceAmong self.old skips.old among offer }
-        requires room { 0 < L.room log.old }
-        ensures choices { AreChoices offer.lane self.old skips.old (offer.delivery ∷ []) self.new skips.new }
-        ensures logged { L.steps log.new ≡ L.steps log.old ++ gift_of offer.lane offer.delivery ∷ [] }
-        ensures stands { (T : List StepValue) → Stands T self.old → Stands (T ++ gift_of offer.lane offer.delivery ∷ []) self.new }
-        ensures shape { self.new.shape ≡ self.old.shape }
-        ensures room { L.room log.old ≤ L.room log.new + 1 }
-        ensures next { IfSome result (IsChoiceAmong self.new skips.new among) }
+    fn left_for(&self, queue: usize, skips: &Skips) -> usize
+        requires there { queue < length self.now.shape.queues }
+        requires quota { slice_index skips.now.given queue ≤ self.now.shape.sweep }
+        ensures left { HasLeft self.now skips.now queue result }
+        ensures counts { length skips.now.given ≡ MAX_QUEUES }
     {
-        let Offer {
-            lane,
-            delivery,
-            level,
-            slot,
-        } = offer;
-        let queue = delivery.queue();
         self.facts();
-        self.give_at(lane, queue, &numbered(&delivery), level, slot, log);
-        skips.given(queue);
-        if self.lanes.room(lane) == 0
-            || !skips.has_quota(queue, self.shape.sweep())
-            || !self.has_place(queue)
-        {
-            return None;
-        }
-        self.offer_at_head(queue, level, among, SmallSet::below(MAX_MEMBERS), skips)
+        let quota = skips.quota_left(queue, self.shape.sweep());
+        self.orders.places_for(queue, quota)
+    }
+
+    /// Deals the first events of the queue's level among these lanes, each of which is the choice then, as far as they are quick to see.
+    /// Nothing is logged or counted yet.
+    #[inline(always)]
+    fn deal_out(
+        &mut self,
+        queue: usize,
+        level: Level,
+        among: SmallSet,
+        bound: usize,
+        _skips: &Skips,
+        run: &mut ArrayVec<Delivery, 32>,
+        to: &mut ArrayVec<usize, 32>,
+    )
+        requires turn { HasTurn self.old _skips.now queue level.number }
+        requires ports { has_flow_lanes self.old.shape queue ≡ false }
+        requires lanes { AreOpenLanes self.old _skips.now queue among }
+        requires left { HasLeft self.old _skips.now queue bound }
+        requires counts { length _skips.now.given ≡ MAX_QUEUES }
+        requires room { bound ≤ 32 }
+        requires none { run.old.items ≡ [] }
+        requires no_lanes { to.old.items ≡ [] }
+        ensures { AreDealtOut queue bound among self.old _skips.now run.new.items to.new.items self.new }
+    {
+        // To make the set of all slots makes known that there is one.
+        let _ = SmallSet::below(MAX_MEMBERS);
+        self.queues.push_heads(queue, level, bound, run);
+        let slots = self.queues.slots(queue);
+        self.lanes.deal_row(
+            &mut self.orders,
+            &mut self.pins,
+            among,
+            queue,
+            run.as_slice(),
+            |flow| slots.of(flow),
+            to,
+        );
+        run.truncate(to.len());
+        self.queues.remove_row(queue, level, run.as_slice());
+    }
+
+    /// Gives what is chosen, from what was proposed on, as long as just these lanes are open, those are events of its queue and level that
+    /// are quick to see, and they are no more than `most`, and than `MAX_RUN`: `run` then has just these, in their order, and `to` the
+    /// lane of each; the log has their steps, and they count as given in what the sweep passes over. Where none is quick to see nothing
+    /// is given.
+    #[inline(always)]
+    pub fn deal_row<L: StepLog>(
+        &mut self,
+        offer: &Offer,
+        among: SmallSet,
+        most: usize,
+        skips: &mut Skips,
+        run: &mut ArrayVec<Delivery, 32>,
+        to: &mut ArrayVec<usize, 32>,
+        log: &mut L,
+    )
+        requires choice { IsChoiceAmong self.old skips.old among offer.now }
+        requires room { self.old.shape.sweep ≤ L.room log.old + slice_index skips.old.given offer.now.delivery.queue }
+        requires no_lanes { to.old.items ≡ [] }
+        ensures deals { AreDeals self.old skips.old run.new.items to.new.items self.new skips.new }
+        ensures few { length run.new.items ≤ most }
+        ensures lanes { All (Has among) to.new.items }
+        ensures room_of { (l : ℕ) → Has among l → times l to.new.items + length (unanswered_at self.old l) ≤ depth_of self.old.shape l }
+        ensures logged { L.steps log.new ≡ L.steps log.old ++ gifts_to run.new.items to.new.items }
+        ensures shape { self.new.shape ≡ self.old.shape }
+        ensures room { L.room log.old ≤ L.room log.new + length run.new.items }
+    {
+        let queue = offer.delivery.queue();
+        let left = self.left_for(queue, skips);
+        let bound = left.min(most).min(MAX_RUN);
+        self.facts();
+        run.clear();
+        self.deal_out(queue, offer.level, among, bound, skips, run, to);
+        let row = run.as_slice();
+        log.push_deals(queue, row, to.as_slice());
+        skips.given_row(queue, row.len());
     }
 }

@@ -2,23 +2,15 @@
 
 ghost use Rattle.std.specs.Prelude.{◌≡◌, ℕ, ◌<◌, ◌↔◌, true, IsTrue, length, IfSome, IfNone};
 ghost use Rattle.transcripts.specs.Choice.{HasNoOther, IsBetterLane};
-ghost use Rattle.transcripts.specs.Standing.{unanswered_at};
 ghost use Rattle.evt_types.specs.Plan.{has_flow_lanes, lanes_of, queue_of, is_atomic, serves};
 ghost use Rattle.small_set.specs.SmallSets.{Has};
-ghost use Rattle.sched_core.specs.Offered.{AreOpenLanes, FitsSlot, HasAllowed, HasPlace, MayHold, better_of};
+ghost use Rattle.sched_core.specs.Offered.{AreOpenLanes, FitsSlot, HasAllowed, HasPlace, MayHold};
 
 use crate::skips::Skips;
 use crate::slot_lanes::SLOTS;
 use crate::state::Core;
 use evt_types::Serving;
 use small_set::{MAX_MEMBERS, SmallSet};
-
-/// A lane, and how many of its events are unanswered.
-#[derive(Clone, Copy)]
-struct Load {
-    lane: usize,
-    events: usize,
-}
 
 impl Core {
     /// The ports' lanes that serve the queue, have room and aren't passed over.
@@ -101,28 +93,7 @@ impl Core {
         ensures best { IfSome result (λ l. (m : ℕ) → MayHold self.now lanes queue slot m → ¬ IsBetterLane self.now m l) }
         ensures none { IfNone result ((l : ℕ) → ¬ MayHold self.now lanes queue slot l) }
     {
-        match self.pins.holder(queue, slot) {
-            Some(lane) if lane < MAX_MEMBERS && lanes.has(lane) => Some(lane),
-            Some(_) => None,
-            None => self.least_loaded(lanes),
-        }
-    }
-
-    /// Of these lanes the one with fewest unanswered events, of several the first.
-    #[inline(always)]
-    fn least_loaded(&self, lanes: SmallSet) -> Option<usize>
-        requires { (l : ℕ) → Has lanes l → l < lanes_of self.now.shape }
-        ensures there { IfSome result (Has lanes) }
-        ensures best { IfSome result (λ l. (m : ℕ) → Has lanes m → ¬ IsBetterLane self.now m l) }
-        ensures none { IfNone result ((l : ℕ) → ¬ Has lanes l) }
-    {
-        let mut left = lanes;
-        let first = left.pop()?;
-        let mut best = self.load(first);
-        while let Some(lane) = left.pop() {
-            best = self.better_lane(best, lane);
-        }
-        Some(best.lane)
+        self.lanes.lane_among(&self.pins, lanes, queue, slot)
     }
 
     /// The slot's flow lane, where it may take an event.
@@ -161,30 +132,5 @@ impl Core {
         ensures { IsTrue result ↔ (is_atomic (queue_of self.now.shape queue).kind ≡ true → HasNoOther self.now lane queue slot) }
     {
         self.pins.may(queue, slot, lane)
-    }
-
-    /// How many events of the lane are unanswered.
-    fn load(&self, lane: usize) -> Load
-        requires { lane < lanes_of self.now.shape }
-        ensures lane { result.lane ≡ lane }
-        ensures events { result.events ≡ length (unanswered_at self.now result.lane) }
-    {
-        let events = self.lanes.len(lane);
-        Load { lane, events }
-    }
-
-    /// The one with fewer unanswered events, of both the first.
-    fn better_lane(&self, best: Load, lane: usize) -> Load
-        requires lane { lane < lanes_of self.now.shape }
-        requires events { best.events ≡ length (unanswered_at self.now best.lane) }
-        ensures lane { result.lane ≡ better_of self.now best.lane lane }
-        ensures events { result.events ≡ length (unanswered_at self.now result.lane) }
-    {
-        let other = self.load(lane);
-        if best.events <= other.events {
-            best
-        } else {
-            other
-        }
     }
 }

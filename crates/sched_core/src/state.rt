@@ -1,13 +1,13 @@
 //! What the core holds, and what can be read of it.
 
 ghost use Rattle.std.specs.Prelude.{ℕ, ◌≡◌, ◌+◌, ◌*◌, ◌^◌, ◌<◌, ◌≤◌, ◌++◌, List, length, map, slice_index_or, sum_by, vec_len, vec_capacity};
-ghost use Rattle.transcripts.specs.Standing.{Stands, after, entries_of, inside_of, kept_at, kept_event, kept_in, kept_in_place, places_at, steps_of, waiting_at};
+ghost use Rattle.transcripts.specs.Standing.{Stands, after, entries_of, inside_of, kept_at, kept_event, kept_in, kept_in_place, places_at, steps_of, unanswered_at, waiting_at};
 ghost use Rattle.transcripts.specs.Sweep.{IsSweep, Sweeping, sweep_room, sweep_steps};
 ghost use Rattle.transcripts.specs.Transcript as transcripts;
 ghost use Rattle.transcripts.specs.Transcript.{kept_events};
 ghost use Rattle.evt_types.specs.Fault.{IsWithinLimits};
 ghost use Rattle.evt_types.specs.Plan as plans;
-ghost use Rattle.evt_types.specs.Plan.{lanes_of};
+ghost use Rattle.evt_types.specs.Plan.{depth_of, lanes_of};
 ghost use Rattle.evt_types.specs.declared.event.Event.{Event as EventValue};
 ghost use Rattle.order_parts.specs.Reorder.{open_place};
 ghost use Rattle.parked_queue.specs.Lists.{delivery_of};
@@ -107,6 +107,14 @@ impl Core {
         ensures { result ≡ length (waiting_at self.now queue) }
     {
         self.queues.count(queue)
+    }
+
+    /// How many events more the lane may hold.
+    pub fn lane_room(&self, lane: usize) -> usize
+        requires { lane < lanes_of self.now.shape }
+        ensures { result + length (unanswered_at self.now lane) ≡ depth_of self.now.shape lane }
+    {
+        self.lanes.room(lane)
     }
 
     /// Appends the queue's waiting events, by rising number, each as it would be delivered.

@@ -1,1 +1,2 @@
+pub mod Deals
 pub mod Forwards

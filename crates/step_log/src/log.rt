@@ -3,7 +3,7 @@
 ghost use Rattle.std.specs.Prelude.{◌≡◌, ℕ, ◌+◌, ◌-◌, ◌*◌, ◌<◌, ◌≤◌, ◌^◌, List, [], ◌∷◌, ◌++◌, length, vec_len, vec_capacity, OnOk};
 ghost use Rattle.std.proofs.Common.{rules};
 ghost use Rattle.evt_types.specs.declared.step.Step.{Step as StepValue};
-ghost use Rattle.step_log.specs.Gives.{gives_of};
+ghost use Rattle.step_log.specs.Gives.{deals_of, gives_of};
 ghost use Rattle.step_log.specs.Rows.{AreTo, forward_steps, news_steps, release_steps};
 
 use evt_types::{Delivery, Memory, Outcome, Reply, Source, Step};
@@ -97,6 +97,23 @@ pub trait StepLog: Drop {
                 lane,
                 queue,
                 number: delivery.number(),
+            });
+        }
+    }
+
+    /// Each of these events of the queue is given to the lane at its place: so many steps more, in this order.
+    #[inline(always)]
+    fn push_deals(&mut self, queue: usize, row: &[Delivery], lanes: &[usize])
+        requires lanes { length lanes.now ≡ length row.now }
+        requires room { length row.now ≤ room self.old }
+        ensures steps { steps self.new ≡ steps self.old ++ deals_of queue row.now lanes.now }
+        ensures room { room self.old ≤ room self.new + length row.now }
+    {
+        for position in 0..row.len() {
+            self.push_step(Step::Give {
+                lane: lanes[position],
+                queue,
+                number: row[position].number(),
             });
         }
     }

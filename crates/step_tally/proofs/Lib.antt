@@ -1,4 +1,5 @@
 pub mod Balance
+pub mod DealtRows
 pub mod Entries
 pub mod GivenRows
 pub mod Pushes

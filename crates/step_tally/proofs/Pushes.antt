@@ -37,7 +37,7 @@ one_more : {Y : Type 0} (o : Option Y) (ys : List Y) → length (cons_option o y
 one_more None ys = omega arith
 one_more (Some y) ys = omega arith
 
-filter_map_few : {X Y : Type 0} (f : X → Option Y) (xs : List X) → length (filter_map f xs) ≤ length xs
+pub filter_map_few : {X Y : Type 0} (f : X → Option Y) (xs : List X) → length (filter_map f xs) ≤ length xs
 filter_map_few f [] = omega arith
 filter_map_few f (x ∷ xs) = omega (arith, filter_map_few f xs, one_more (f x) (filter_map f xs))
 
@@ -92,7 +92,7 @@ given_still : (T : List Step) (s : Step) (q l : ℕ) → is_given_to q l s ≡ f
 unfolding given_to
 given_still T s q l h = count_still (is_given_to q l) T s h
 
-given_row-length : (T : List Step) (q : ℕ) → length (given_row T q) ≡ MAX_PORTS
+pub given_row-length : (T : List Step) (q : ℕ) → length (given_row T q) ≡ MAX_PORTS
 given_row-length T q = length-map-range_with_len (given_to T q) 0 MAX_PORTS
 
 pub given_row-at : (T : List Step) (q l d : ℕ) → l < MAX_PORTS → get_or (given_row T q) l d ≡ given_to T q l
@@ -106,7 +106,7 @@ given_row-still T s q none =
     given_row-at (T ++ s ∷ []) q k d h ∙ (given_still T s q k (none k) ∙ sym (given_row-at T q k d h)))
 
 -- a Give of the queue
-given_row-gives : (T : List Step) (l q n : ℕ)
+pub given_row-gives : (T : List Step) (l q n : ℕ)
     → given_row (T ++ Give l q n ∷ []) q ≡ slice_set (given_row T q) l (slice_index (given_row T q) l + 1)
 given_row-gives T l q n =
     same_lists _ _ (given_row-length (T ++ s ∷ []) q ∙ sym (length-set (given_row T q) l _ ∙ given_row-length T q)) (λ k d lt.

@@ -4,7 +4,9 @@ ghost use Rattle.std.specs.Prelude.{[], IfOk};
 ghost use Rattle.step_tally.specs.Tables.{AreTables};
 
 use crate::counts::{LaneCounts, QueueCounts};
-use crate::gives::{count_gives_at_lane, count_gives_at_queue};
+use crate::gives::{
+    count_deals_at_lanes, count_deals_at_queue, count_gives_at_lane, count_gives_at_queue,
+};
 use crate::rows::{
     count_forwards_at_lane, count_forwards_at_queue, count_news_at_lane, count_news_at_queue,
     count_releases,
@@ -163,6 +165,13 @@ impl<L: StepLog> StepLog for Tally<L> {
         count_gives_at_queue(&mut self.queues, &self.log, lane, queue, row);
         count_gives_at_lane(&mut self.lanes, &self.log, lane, queue, row);
         self.log.push_gives(lane, queue, row);
+    }
+
+    #[inline(always)]
+    fn push_deals(&mut self, queue: usize, row: &[Delivery], lanes: &[usize]) {
+        count_deals_at_queue(&mut self.queues, &self.log, queue, row, lanes);
+        count_deals_at_lanes(&mut self.lanes, &self.log, queue, row, lanes);
+        self.log.push_deals(queue, row, lanes);
     }
 
     fn make_room(&mut self, count: usize) -> Result<(), Memory> {

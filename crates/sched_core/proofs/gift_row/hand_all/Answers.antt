@@ -3,6 +3,7 @@ use Rattle.std.proofs.lemmas.List.{length-set, take_more}
 use Rattle.evt_types.specs.declared.event.Delivery.{Delivery}
 use Rattle.evt_types.specs.declared.event.Event.{Event}
 use Rattle.evt_types.specs.declared.shape.TheConstants.{MAX_DEPTH}
+use Rattle.order_parts.specs.Dealing.{with_entry}
 use Rattle.order_parts.specs.Histories.{lane_in}
 use Rattle.order_parts.specs.History.{Entries, entries_of}
 use Rattle.order_parts.specs.Orders.{handed, is_restoring, order_at}
@@ -11,7 +12,7 @@ use Rattle.order_parts.specs.QueuePins.{pin_in, pins_at}
 use Rattle.order_parts.specs.Reorder.{Reordering}
 use Rattle.order_parts.specs.declared.history.Entry.{Entry}
 use Rattle.sched_core.proofs.HandedRows.{counts_left, handed_push, places_left, plain_handed, room_left}
-use Rattle.sched_core.specs.GiftRows.{AreHanded, pinned_on, slot_in_row, with_entry}
+use Rattle.sched_core.specs.GiftRows.{AreHanded, pinned_on, slot_in_row}
 use Rattle.sched_core.proofs.gift_row.hand_all.Goals as goal
 
 pub returns-then-not-restores-clause-handed : goal.returns-then-not-restores-clause-handed

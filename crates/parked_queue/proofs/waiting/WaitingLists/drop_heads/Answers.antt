@@ -1,19 +1,36 @@
-use Rattle.std.proofs.Common.{◌∙◌, ap, arith, drop, length, sym}
-use Rattle.std.proofs.lemmas.List.{length-drop, length-set}
-use Rattle.parked_queue.specs.Lists.{Lists, list_at}
-use Rattle.parked_queue.proofs.LevelHeads.{dropped_at, dropped_more}
-use Rattle.parked_queue.proofs.Without.{list_same}
+use Rattle.std.proofs.Common.{◌≡◌, ◌+◌, ◌-◌, ◌∙◌, ap, arith, drop, length, refl, slice_get, vec_len}
+use Rattle.parked_queue.specs.Lists.{list_at, with_list}
+use Rattle.parked_queue.proofs.Changes.{chain_here, events_here, last_there, store_row_gone, view_row_gone}
+use Rattle.parked_queue.proofs.Nodes.{list_within}
+use Rattle.parked_queue.proofs.Walks.{length_events}
 use Rattle.parked_queue.proofs.waiting.WaitingLists.drop_heads.Goals as goal
 
-pub loop-init : goal.loop-init
-loop-init c = sym (list_same c.args.self.now c.args.list)
+pub node_behind-last-requires-clause-chain : goal.node_behind-last-requires-clause-chain
+node_behind-last-requires-clause-chain c =
+    record {
+      owner = c.self.invariant.chains.owner;
+      k = _;
+      is = chain_here c.self.inside.nodes.items (vec_len c.self.inside.nodes) c.self.inside.free c.self.inside.chains.items c.self.inside.room c.args.self.now c.self.view_is c.self.invariant c.args.list c.requires.list c.index_mut-chain.result.now c.index_mut-chain.ensures.value;
+    }
 
-pub drop_first-requires-clause-list : goal.drop_first-requires-clause-list
-drop_first-requires-clause-list c = omega (arith, c.requires.list, ap (λ (v : Lists). length v.lists) c.loop.invariant, length-set c.args.self.now.lists c.args.list (drop c.loop.counter (list_at c.args.self.now c.args.list)))
+pub node_behind-last-requires-clause-some : goal.node_behind-last-requires-clause-some
+node_behind-last-requires-clause-some c =
+    let here = chain_here c.self.inside.nodes.items (vec_len c.self.inside.nodes) c.self.inside.free c.self.inside.chains.items c.self.inside.room c.args.self.now c.self.view_is c.self.invariant c.args.list c.requires.list c.index_mut-chain.result.now c.index_mut-chain.ensures.value in
+    let events = events_here c.self.inside.nodes.items (vec_len c.self.inside.nodes) c.self.inside.free c.self.inside.chains.items c.self.inside.room c.args.self.now c.self.view_is c.self.invariant c.args.list c.requires.list c.index_mut-chain.result.now c.index_mut-chain.ensures.value in
+    let count = length_events (slice_get c.self.inside.nodes.items) c.self.invariant.chains.owner _ (vec_len c.self.inside.nodes) c.index_mut-chain.result.now here in
+    omega (arith, c.requires.some, c.if-count-eq0.false, count, ap length events)
 
-pub drop_first-requires-clause-some : goal.drop_first-requires-clause-some
-drop_first-requires-clause-some c =
-    omega (arith, c.requires.some, c.loop-test.true, ap length (dropped_at c.args.self.now c.loop.self c.args.list (drop c.loop.counter (list_at c.args.self.now c.args.list)) c.requires.list c.loop.invariant), length-drop c.loop.counter (list_at c.args.self.now c.args.list))
+pub release-chain-requires : goal.release-chain-requires
+release-chain-requires c =
+    list_within c.self.inside.nodes c.node_behind-last.result
+    (last_there c.self.inside.nodes.items (vec_len c.self.inside.nodes) c.self.inside.free c.self.inside.chains.items c.self.inside.room c.args.self.now c.self.view_is c.self.invariant c.args.list c.requires.list c.index_mut-chain.result.now c.index_mut-chain.ensures.value (c.args.count - 1) c.node_behind-last.result c.node_behind-last.ensures)
 
-pub loop-preserved : goal.loop-preserved
-loop-preserved c = c.drop_first.ensures ∙ dropped_more c.args.self.now c.loop.self c.args.list c.loop.counter c.requires.list c.loop.invariant
+pub invariant_of-self : goal.invariant_of-self
+invariant_of-self c =
+    store_row_gone c.self.inside.nodes.items (vec_len c.self.inside.nodes) c.self.inside.free c.self.inside.chains.items c.self.inside.room c.args.self.now c.self.view_is c.self.invariant c.args.list c.requires.list c.index_mut-chain.result.now c.index_mut-chain.ensures.value (c.args.count - 1) c.node_behind-last.result c.node_behind-last.ensures c.release-chain.new.nodes.items (vec_len c.release-chain.new.nodes) c.release-chain.result c.index_mut-chain.result.now.first (record { first = c.release-chain.result; spare = c.index_mut-chain.result.now.spare }) c.release-chain.ensures.count c.release-chain.ensures.next refl c.release-chain.ensures.linked refl
+
+pub returns : goal.returns
+returns c =
+    let all : c.args.count - 1 + 1 ≡ c.args.count = omega (arith, c.if-count-eq0.false) in
+    view_row_gone c.self.inside.nodes.items (vec_len c.self.inside.nodes) c.self.inside.free c.self.inside.chains.items c.self.inside.room c.args.self.now c.self.view_is c.self.invariant c.args.list c.requires.list c.index_mut-chain.result.now c.index_mut-chain.ensures.value (c.args.count - 1) c.node_behind-last.result c.node_behind-last.ensures c.release-chain.new.nodes.items (vec_len c.release-chain.new.nodes) c.release-chain.result c.index_mut-chain.result.now.first (record { first = c.release-chain.result; spare = c.index_mut-chain.result.now.spare }) c.release-chain.ensures.count c.release-chain.ensures.next refl c.release-chain.ensures.linked refl
+    ∙ ap (λ n. with_list c.args.self.now c.args.list (drop n (list_at c.args.self.now c.args.list))) all

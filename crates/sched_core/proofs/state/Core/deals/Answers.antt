@@ -9,7 +9,6 @@ returns c =
     let q = c.args.offer.now.delivery.queue in
     record {
       choice = c.requires.choice;
-      slot = c.requires.slot;
       ports = ap (has_flow_lanes v.shape) (sym c.queue-queue.ensures) ∙ (sym c.has_flow_lanes.ensures ∙ c.if-has_flow_lanes.false);
       lanes = subst (λ k. AreOpenLanes v c.args.skips.now k c.open_lanes-among.result) c.queue-queue.ensures c.open_lanes-among.ensures;
     }

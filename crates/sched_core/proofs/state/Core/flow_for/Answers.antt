@@ -4,9 +4,9 @@ use Rattle.std.specs.Option.{IfNone}
 use Rattle.evt_types.specs.Plan.{has_flow_lanes}
 use Rattle.transcripts.specs.Standing.{View}
 use Rattle.sched_core.proofs.Cores.{queue_there}
-use Rattle.sched_core.proofs.Offers.{not_itself}
+use Rattle.order_parts.proofs.Fewest.{not_itself}
 use Rattle.sched_core.proofs.OpenLanes.{slot_lane_here, slot_lane_none, slot_lane_alone}
-use Rattle.sched_core.specs.Offered.{FitsSlot}
+use Rattle.sched_core.specs.Offered.{FitsSlot, loads_at}
 use Rattle.sched_core.specs.SlotLanes.{IsSlotLane}
 use Rattle.sched_core.specs.View.{IsCore, view_in}
 use Rattle.sched_core.specs.declared.state.Core.TheInside.{Inside}
@@ -33,7 +33,7 @@ returns-in_err-lane-clause-none c =
 pub returns-then-fits-clause-best : goal.returns-then-fits-clause-best
 returns-then-fits-clause-best c m fits =
     let one : IsSlotLane c.args.self.now.shape c.args.queue c.args.slot (Some c.in_ok-lane.lane) = slot_lane_read c.self.inside c.args.self.now c.args.queue c.args.slot c.index.result.now _ c.self.invariant c.self.view_is c.requires.flows c.requires.queue c.requires.slot c.index.ensures c.in_ok-lane.was in
-    not_itself c.args.self.now c.in_ok-lane.lane m (sym (slot_lane_alone c.args.self.now c.args.skips.now c.args.queue c.args.slot c.in_ok-lane.lane m c.requires.flows one fits))
+    not_itself (loads_at c.args.self.now) c.in_ok-lane.lane m (sym (slot_lane_alone c.args.self.now c.args.skips.now c.args.queue c.args.slot c.in_ok-lane.lane m c.requires.flows one fits))
 
 pub returns-else-fits-clause-none : goal.returns-else-fits-clause-none
 returns-else-fits-clause-none c m fits =

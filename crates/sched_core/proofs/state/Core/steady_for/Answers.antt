@@ -1,12 +1,10 @@
-use Rattle.std.proofs.Common.{◌≡◌, ℕ, ◌+◌, ◌-◌, ◌<◌, ◌≤◌, Bool, true, false, cond, min, [], length, slice_index, sym, ap, ◌∙◌, arith}
-use Rattle.std.proofs.lemmas.Bool.{cond-true}
-use Rattle.evt_types.specs.Plan.{depth_of, is_ordered, lanes_of, queue_of}
+use Rattle.std.proofs.Common.{◌≡◌, ℕ, ◌+◌, ◌-◌, ◌<◌, ◌≤◌, min, [], length, slice_index, sym, ap, ◌∙◌, arith}
+use Rattle.evt_types.specs.Plan.{depth_of, lanes_of}
 use Rattle.order_parts.specs.History.{entries_of}
 use Rattle.order_parts.specs.Histories.{lane_in}
-use Rattle.order_parts.specs.Orders.{is_restoring, order_at, places_for}
-use Rattle.order_parts.specs.Reorder.{Reordering}
-use Rattle.sched_core.proofs.Answering.{restores_here}
-use Rattle.sched_core.proofs.Cores.{lane_there, places_here, queue_there}
+use Rattle.order_parts.specs.Orders.{order_at, places_for}
+use Rattle.sched_core.proofs.Cores.{lane_there}
+use Rattle.sched_core.proofs.Deals.{left_here, no_more}
 use Rattle.sched_core.proofs.OpenLanes.{held_here}
 use Rattle.sched_core.specs.Offered.{AreOpenLanes}
 use Rattle.sched_core.specs.Runs.{IsSteady}
@@ -14,12 +12,8 @@ use Rattle.sched_core.specs.View.{view_in, IsCore}
 use Rattle.sched_core.specs.declared.state.Core.TheInside.{Inside}
 use Rattle.small_set.specs.declared.set.SmallSet.{SmallSet}
 use Rattle.transcripts.specs.Choice.{Passed}
-use Rattle.transcripts.specs.Standing.{View, places_at, unanswered_at}
+use Rattle.transcripts.specs.Standing.{View, unanswered_at}
 use Rattle.sched_core.proofs.state.Core.steady_for.Goals as goal
-
-no_more : (b : Bool) (x m : ℕ) → cond b (min x m) m ≤ m
-no_more true x m = omega arith
-no_more false x m = omega arith
 
 -- as many events as no count hinders
 steady_here : (a : Inside) (v : View) (s : Passed) (l q n m quota room : ℕ) → IsCore a → view_in a ≡ v → q < length v.shape.queues → l < lanes_of v.shape → slice_index s.given q ≤ v.shape.sweep → quota ≡ a.shape.sweep - slice_index s.given q
@@ -29,29 +23,13 @@ steady_here a v s l q n m quota room core same queue lane fits left free least i
     let held : length (unanswered_at v l) ≡ length (lane_in a.lanes l).entries = sym (ap (λ (u : View). length (unanswered_at u l)) same) ∙ held_here a l h in
     let depth : (lane_in a.lanes l).capacity ≡ depth_of v.shape l = core.room l (entries_of [] 0) h ∙ ap (λ (u : View). depth_of u.shape l) same in
     let sweep : a.shape.sweep ≡ v.shape.sweep = ap (λ (u : View). u.shape.sweep) same in
+    let its = left_here a v s q n m core same queue (omega (arith, fits, left, sweep, least)) is in
     record {
-      quota = omega (arith, fits, left, sweep, least, within);
+      quota = its.quota;
       opened = λ more. opened;
-      room = omega (arith, held, depth, free, least, within);
-      places = placed;
+      room = omega (arith, held, depth, free, least, is, no_more (order_at a.orders q) m);
+      places = its.places;
     }
-  where
-    r : Reordering
-    r = order_at a.orders q
-
-    within : n ≤ m
-    within = rw is (no_more (is_restoring r) (r.depth - length r.places) m)
-
-    placed : is_ordered (queue_of v.shape q).kind ≡ true → length (places_at v q) + n ≤ (queue_of v.shape q).order
-    placed ordered =
-        let there = queue_there a v q same queue in
-        let here : is_ordered (queue_of a.shape q).kind ≡ true = ap (λ (u : View). is_ordered (queue_of u.shape q).kind) same ∙ ordered in
-        let few : n ≡ min (r.depth - length r.places) m = is ∙ cond-true (is_restoring r) (min (r.depth - length r.places) m) m (restores_here a q core there ∙ here) in
-        let depth : r.depth ≡ (queue_of v.shape q).order =
-        (core.places.each q there).room ∙ (cond-true (is_ordered (queue_of a.shape q).kind) (queue_of a.shape q).order 0 here ∙ ap (λ (u : View). (queue_of u.shape q).order) same) in
-        let full : length r.places ≤ r.depth = (core.places.each q there).within in
-        let places : length (places_at v q) ≡ length r.places = sym (ap (λ (u : View). length (places_at u q)) same) ∙ ap length (places_here a q core there) in
-        omega (arith, few, depth, full, places)
 
 pub returns-clause-steady : goal.returns-clause-steady
 returns-clause-steady c =

@@ -1,14 +1,15 @@
 -- A row of events is dealt among lanes one after another: one event more.
-use Rattle.std.proofs.Common.{◌≡◌, ◌↔◌, ℕ, ◌+◌, ◌-◌, ◌<◌, ◌≤◌, true, false, List, [], ◌∷◌, ◌++◌, length, set, get_or, take, All, IsTrue, cond, ◌==◌, eq-eqb, ⊎_elim, refl, sym, ap, ◌∙◌, subst, arith}
+use Rattle.std.proofs.Common.{◌≡◌, ◌↔◌, ℕ, ◌+◌, ◌-◌, ◌<◌, ◌≤◌, true, false, List, [], ◌∷◌, ◌++◌, length, set, get_or, take, All, IsTrue, Some, slice_get, cond, ◌==◌, eq-eqb, ⊎_elim, refl, sym, ap, ◌∙◌, subst, arith}
 use Rattle.std.proofs.lemmas.Bool.{cases_Bool, cases_eq, cases_lt, cond-true, cond-false, false≢true, ne_eqb}
 use Rattle.std.proofs.lemmas.Grind.{get_or-set_at}
 use Rattle.std.proofs.lemmas.List.Elements.{All-cons, All-nil}
 use Rattle.std.proofs.lemmas.List.Sums.{sum_by-cons}
 use Rattle.std.proofs.lemmas.List.{get_or_past, get_or-set_other, get_or-set_same, length_push, set_past, take_more}
+use Rattle.std.proofs.lemmas.Option.{slice_get-get_or}
 use Rattle.std.specs.Int.{bit_at}
 use Rattle.evt_types.specs.declared.event.Delivery.{Delivery}
 use Rattle.evt_types.specs.declared.shape.TheConstants.{MAX_DEPTH}
-use Rattle.order_parts.specs.Dealing.{AreDealt, AreOpenOf, HasFewer, IsBestOf, IsBestOpen, loads_in, room_at, times, with_entry}
+use Rattle.order_parts.specs.Dealing.{AreDealt, AreOpenOf, HasFewer, HasNoLane, IsBestOf, IsBestOpen, loads_in, room_at, times, with_entry}
 use Rattle.order_parts.specs.HandedRow.{with_pinned}
 use Rattle.order_parts.specs.Histories.{AreRoomy, HasRoom, lane_in}
 use Rattle.order_parts.specs.History.{Entries, entries_of}
@@ -211,3 +212,21 @@ module _ (ls : List Entries) (l : ℕ) (y : Entry) (there : l < length ls) (room
       as_before e =
           let fits = left s m has (subst (λ (p : Pin). IsTrue (may_pin p m)) e can) in
           omega (arith, fits, room_less m, ap (λ (p : Pin). p.count) e)
+
+-- none of the open lanes may have the slot of the row's next event
+pub no_lane : (is_slot : ℕ → ℕ → Type 0) (among opened : SmallSet) (ps now : List Pin) (ls : List Entries) (row : List Delivery) (i n : ℕ) (d : Delivery) (slot : ℕ) → n ≡ i → i < length row → d ≡ get_or row i d → is_slot d.event.flow slot
+    → AreOpenOf among ls opened → now ≡ ps → ((l : ℕ) → Has opened l → ¬ IsTrue (may_pin (pin_at ps slot) l)) → HasNoLane is_slot among now ls row n
+no_lane is_slot among opened ps now ls row i n d slot same within read is are pins none = (
+  d,
+  slot,
+  ap (slice_get row) same ∙ (slice_get-get_or row i d within ∙ ap Some (sym read)),
+  is,
+  λ l has room may. none l ((are l).1 (has, room)) (subst (λ x. IsTrue (may_pin (pin_at x slot) l)) pins may),
+)
+
+-- and so of the same lists
+pub last_same : (is_slot : ℕ → ℕ → Type 0) (among : SmallSet) (pt pto : List Pin) (lt lto : List Entries) (row : List Delivery) (to too : List ℕ) → too ≡ to → pto ≡ pt → lto ≡ lt
+    → (length to < length row → HasNoLane is_slot among pt lt row (length to)) → length too < length row → HasNoLane is_slot among pto lto row (length too)
+last_same is_slot among pt pto lt lto row to too lanes pins entries last =
+    subst (λ xs. length xs < length row → HasNoLane is_slot among pto lto row (length xs)) (sym lanes)
+    (λ few. subst (λ ps. HasNoLane is_slot among ps lto row (length to)) (sym pins) (subst (λ ls. HasNoLane is_slot among pt ls row (length to)) (sym entries) (last few)))

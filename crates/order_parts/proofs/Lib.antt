@@ -17,5 +17,6 @@ pub mod Places
 pub mod Rings
 pub mod Unpinning
 pub mod Roomy
+pub mod Rounds
 pub mod Rows
 pub mod ShownLists

@@ -1,5 +1,5 @@
 -- What a row of events of one queue that is dealt among lanes leaves of the queue's order and pins, and of the lanes' entries.
-use Rattle.std.specs.Prelude.{ℕ, ◌≡◌, ◌↔◌, ◌<◌, ◌-◌, ◌==◌, ◌⊎◌, count_by, List, [], ◌∷◌, ◌++◌, length, true, IsTrue, slice_set}
+use Rattle.std.specs.Prelude.{ℕ, ◌≡◌, ◌↔◌, ◌<◌, ◌-◌, ◌==◌, ◌⊎◌, count_by, List, [], ◌∷◌, ◌++◌, length, true, Some, IsTrue, slice_get, slice_set}
 use Rattle.evt_types.specs.declared.event.Delivery.{Delivery}
 use Rattle.order_parts.specs.HandedRow.{with_pinned}
 use Rattle.order_parts.specs.Histories.{HasRoom, lane_in}
@@ -56,3 +56,7 @@ AreDealt is_slot among q r ps ls (d ∷ ds) (l ∷ to) rt pt lt =
 -- these are those of the lanes that have room
 abbrev pub AreOpenOf : SmallSet → List Entries → SmallSet → Type 0
 AreOpenOf among ls opened = (l : ℕ) → Has opened l ↔ (Has among l × HasRoom ls l)
+
+-- none of these lanes that have room may have the slot of the event at this place of the row
+abbrev pub HasNoLane : (ℕ → ℕ → Type 0) → SmallSet → List Pin → List Entries → List Delivery → ℕ → Type 0
+HasNoLane is_slot among ps ls ds i = (d : Delivery) × (slot : ℕ) × (slice_get ds i ≡ Some d) × is_slot d.event.flow slot × ((l : ℕ) → Has among l → HasRoom ls l → ¬ IsTrue (may_pin (pin_at ps slot) l))

@@ -10,5 +10,6 @@ pub mod QueuePins
 pub mod Released
 pub mod Reorder
 pub mod Ring
+pub mod Rounds
 pub mod Rows
 pub mod Unpinned

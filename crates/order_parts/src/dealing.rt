@@ -2,41 +2,44 @@
 
 ghost use Rattle.std.specs.Prelude.{◌≡◌, ℕ, ◌+◌, ◌<◌, ◌≤◌, [], true, false, length, take, IfNone, IfSome, IsTrue};
 ghost use Rattle.evt_types.specs.declared.shape.TheConstants.{MAX_DEPTH};
-ghost use Rattle.order_parts.specs.Dealing.{AreDealt, AreOpenOf, HasFewer, IsBestOf, loads_in, room_at, with_entry};
+ghost use Rattle.order_parts.specs.Dealing.{AreDealt, AreOpenOf, HasNoLane, IsBestOf, loads_in, room_at, with_entry};
 ghost use Rattle.order_parts.specs.HandedRow.{OfFlows, with_pinned};
 ghost use Rattle.order_parts.specs.Histories.{HasRoom, lane_in};
 ghost use Rattle.order_parts.specs.Orders.{is_restoring};
 ghost use Rattle.order_parts.specs.Pins.{may_pin, pin_at};
 ghost use Rattle.order_parts.specs.Reorder.{Reordering};
+ghost use Rattle.order_parts.specs.Rounds.{IsHolder, IsRound, IsRoundBut};
 ghost use Rattle.small_set.specs.SmallSets.{Has};
 
 use crate::histories::note_full;
 use crate::history::{Entry, History};
 use crate::pins::Pins;
 use crate::reorder::Reorder;
+use crate::round::{Round, least_loaded};
 use arrayvec::ArrayVec;
 use evt_types::Delivery;
 use small_set::{MAX_MEMBERS, SmallSet};
 
-/// Of these lanes the one with fewest unanswered events, of several the first.
+/// Who may have a slot, of some lanes.
+enum Holder {
+    /// This one of them alone.
+    Is(usize),
+    /// None of them.
+    Away,
+    /// Any of them.
+    Free,
+}
+
+/// Who may have the slot, of these lanes.
 #[inline(always)]
-fn least_loaded(histories: &[History], lanes: SmallSet) -> Option<usize>
-    requires { (l : ℕ) → Has lanes l → l < length histories.now }
-    ensures there { IfSome result (Has lanes) }
-    ensures best { IfSome result (λ l. (m : ℕ) → Has lanes m → ¬ HasFewer (loads_in histories.now) m l) }
-    ensures none { IfNone result ((l : ℕ) → ¬ Has lanes l) }
+fn holder_among(pins: &Pins, lanes: SmallSet, slot: usize) -> Holder
+    ensures { IsHolder (pin_at pins.now slot) lanes result }
 {
-    let mut left = lanes;
-    let mut best = left.pop()?;
-    let mut fewest = histories[best].len();
-    while let Some(lane) = left.pop() {
-        let events = histories[lane].len();
-        if events < fewest {
-            best = lane;
-            fewest = events;
-        }
+    match pins.holder(slot) {
+        Some(lane) if lane < MAX_MEMBERS && lanes.has(lane) => Holder::Is(lane),
+        Some(_) => Holder::Away,
+        None => Holder::Free,
     }
-    Some(best)
 }
 
 /// Of these lanes the one that may have the slot and has fewest unanswered events, of several the first.
@@ -51,26 +54,39 @@ pub(crate) fn lane_among(
     ensures best { IfSome result (IsBestOf pins.now histories.now lanes slot) }
     ensures none { IfNone result ((l : ℕ) → Has lanes l → ¬ IsTrue (may_pin (pin_at pins.now slot) l)) }
 {
-    match pins.holder(slot) {
-        Some(lane) if lane < MAX_MEMBERS && lanes.has(lane) => Some(lane),
-        Some(_) => None,
-        None => least_loaded(histories, lanes),
+    match holder_among(pins, lanes, slot) {
+        Holder::Is(lane) => Some(lane),
+        Holder::Away => None,
+        Holder::Free => least_loaded(histories, lanes),
     }
 }
 
-/// The same, which has the slot then: an event more of the slot goes to it. A slot without a pin is free.
+/// The same, in a round. The lane has the slot then: an event more of it goes there. A slot without a pin is free.
 #[inline(always)]
-fn pin_among(pins: &mut Pins, histories: &[History], lanes: SmallSet, slot: usize) -> Option<usize>
+fn pin_among(
+    pins: &mut Pins,
+    round: &mut Round,
+    histories: &[History],
+    lanes: SmallSet,
+    slot: usize,
+) -> Option<usize>
     requires there { (l : ℕ) → Has lanes l → l < length histories.now }
     requires room { (l : ℕ) → Has lanes l → IsTrue (may_pin (pin_at pins.old slot) l) → (pin_at pins.old slot).count < MAX_DEPTH }
+    requires round { IsRound round.old (loads_in histories.now) lanes }
     ensures best { IfSome result (IsBestOf pins.old histories.now lanes slot) }
     ensures pinned { IfSome result (λ l. pins.new ≡ with_pinned pins.old slot l) }
+    ensures none { IfNone result ((l : ℕ) → Has lanes l → ¬ IsTrue (may_pin (pin_at pins.old slot) l)) }
     ensures same { IfNone result (pins.new ≡ pins.old) }
+    ensures round { IfSome result (λ l. IsRoundBut l round.new (loads_in histories.now) lanes) }
 {
     if pins.slots() <= slot {
-        return least_loaded(histories, lanes);
+        return round.next(histories, lanes);
     }
-    let lane = lane_among(pins, histories, lanes, slot)?;
+    let lane = match holder_among(pins, lanes, slot) {
+        Holder::Is(lane) => lane,
+        Holder::Away => return None,
+        Holder::Free => round.next(histories, lanes)?,
+    };
     pins.pin(slot, lane);
     Some(lane)
 }
@@ -83,6 +99,7 @@ fn push(lanes: &mut [History], opened: &mut SmallSet, lane: usize, entry: Entry)
     requires room { HasRoom lanes.old lane }
     ensures lanes { lanes.new ≡ with_entry lanes.old lane entry }
     ensures open { (among : SmallSet) → AreOpenOf among lanes.old opened.old → AreOpenOf among lanes.new opened.new }
+    ensures fewer { (l : ℕ) → Has opened.new l → Has opened.old l }
 {
     let history = &mut lanes[lane];
     history.push(entry);
@@ -111,14 +128,16 @@ pub(crate) fn deal_each<F: Fn(u32) -> usize>(
     requires few { length row.now ≤ 32 }
     requires none { to.old.items ≡ [] }
     ensures few { length to.new.items ≤ length row.now }
+    ensures last { length to.new.items < length row.now → HasNoLane (OfFlows (F.post slot_of)) opened.old pins.new lanes.new row.now (length to.new.items) }
     ensures dealt { (r : Reordering) → is_restoring r ≡ false → AreDealt (OfFlows (F.post slot_of)) opened.old queue r pins.old lanes.old (take (length to.new.items) row.now) to.new.items r pins.new lanes.new }
     ensures open { AreOpenOf opened.old lanes.new opened.new }
     ensures others { (l : ℕ) → ¬ Has opened.old l → lane_in lanes.new l ≡ lane_in lanes.old l }
     ensures count { length lanes.new ≡ length lanes.old }
 {
+    let mut round = Round::of(*opened);
     for delivery in row {
         let slot = slot_of(delivery.packed().flow());
-        let Some(lane) = pin_among(pins, lanes, *opened, slot) else {
+        let Some(lane) = pin_among(pins, &mut round, lanes, *opened, slot) else {
             return;
         };
         push(
@@ -156,15 +175,17 @@ pub(crate) fn deal_ordered<F: Fn(u32) -> usize>(
     requires few { length row.now ≤ 32 }
     requires none { to.old.items ≡ [] }
     ensures few { length to.new.items ≤ length row.now }
+    ensures last { length to.new.items < length row.now → HasNoLane (OfFlows (F.post slot_of)) opened.old [] lanes.new row.now (length to.new.items) }
     ensures dealt { AreDealt (OfFlows (F.post slot_of)) opened.old queue order.old [] lanes.old (take (length to.new.items) row.now) to.new.items order.new [] lanes.new }
     ensures restores { is_restoring order.new ≡ true }
     ensures open { AreOpenOf opened.old lanes.new opened.new }
     ensures others { (l : ℕ) → ¬ Has opened.old l → lane_in lanes.new l ≡ lane_in lanes.old l }
     ensures count { length lanes.new ≡ length lanes.old }
 {
+    let mut round = Round::of(*opened);
     for delivery in row {
         let slot = slot_of(delivery.packed().flow());
-        let Some(lane) = least_loaded(lanes, *opened) else {
+        let Some(lane) = round.next(lanes, *opened) else {
             return;
         };
         let number = delivery.number();

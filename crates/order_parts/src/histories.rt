@@ -3,7 +3,7 @@
 ghost use Rattle.std.specs.Prelude.{◌≡◌, ℕ, true, take, ◌+◌, ◌<◌, ◌≤◌, ◌==◌, ◌∷◌, ◌++◌, [], count_by, length, map, drop, slice_get, slice_set, Some, IfNone, IfOk, IfSome, IsTrue, IsFalse};
 ghost use Rattle.evt_types.specs.Plan.{lanes_of};
 ghost use Rattle.evt_types.specs.declared.shape.TheConstants.{MAX_DEPTH};
-ghost use Rattle.order_parts.specs.Dealing.{AreDealt, IsBestOf, room_at};
+ghost use Rattle.order_parts.specs.Dealing.{AreDealt, HasNoLane, IsBestOf, room_at};
 ghost use Rattle.order_parts.specs.HandedRow.{AreHandedOn, IsRefused, OfFlows};
 ghost use Rattle.order_parts.specs.Orders.{is_restoring, order_at};
 ghost use Rattle.order_parts.specs.Pins.{may_pin};
@@ -226,6 +226,7 @@ impl Histories {
         requires few { length row.now ≤ 32 }
         requires none { to.old.items ≡ [] }
         ensures few { length to.new.items ≤ length row.now }
+        ensures last { length to.new.items < length row.now → HasNoLane (OfFlows (F.post slot_of)) among (pins_at pins.new queue) self.new row.now (length to.new.items) }
         ensures dealt { AreDealt (OfFlows (F.post slot_of)) among queue (order_at orders.old queue) (pins_at pins.old queue) self.old (take (length to.new.items) row.now) to.new.items (order_at orders.new queue) (pins_at pins.new queue) self.new }
         ensures orders { orders.new ≡ slice_set orders.old queue (order_at orders.new queue) }
         ensures pins { pins.new ≡ slice_set pins.old queue (pins_at pins.new queue) }

@@ -10,6 +10,7 @@ mod histories;
 mod history;
 mod pins;
 mod reorder;
+mod round;
 
 pub use all_orders::{AllOrders, all_kept_room};
 pub use all_pins::AllPins;

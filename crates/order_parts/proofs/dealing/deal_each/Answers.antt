@@ -4,14 +4,16 @@ use Rattle.std.proofs.lemmas.List.{length-set, length_push}
 use Rattle.evt_types.specs.declared.event.Delivery.{Delivery}
 use Rattle.evt_types.specs.declared.event.Event.{Event}
 use Rattle.evt_types.specs.declared.shape.TheConstants.{MAX_DEPTH}
-use Rattle.order_parts.specs.Dealing.{IsBestOpen, room_at}
+use Rattle.order_parts.specs.Dealing.{loads_in, room_at, IsBestOpen}
 use Rattle.order_parts.specs.HandedRow.{OfFlows, with_pinned}
 use Rattle.order_parts.specs.Histories.{lane_in}
 use Rattle.order_parts.specs.History.{Entries, entries_of}
 use Rattle.order_parts.specs.Pins.{Pin, may_pin, pin_at}
+use Rattle.order_parts.specs.Rounds.{IsRound}
 use Rattle.order_parts.specs.declared.history.Entry.{Entry}
-use Rattle.order_parts.proofs.Dealt.{best_open, counts_dealt, dealt_next, others_stay, plain_order}
+use Rattle.order_parts.proofs.Dealt.{best_open, counts_dealt, dealt_next, no_lane, others_stay, plain_order}
 use Rattle.order_parts.proofs.HandedOn.{of_flow}
+use Rattle.order_parts.proofs.Rounds.{round_dealt}
 use Rattle.small_set.specs.SmallSets.{Has}
 use Rattle.order_parts.proofs.dealing.deal_each.Goals as goal
 use Rattle.order_parts.proofs.dealing.deal_each.Goals.{In-Some}
@@ -70,6 +72,9 @@ loop-delivery-preserved g c =
           c.push.new.lanes c.loop-delivery-test.true c.delivery-item.is c.push-in-loop-delivery.ensures.items c.number.ensures (plain_order r c.number.result plain) c.in-Some.ensures.pinned c.push.ensures.lanes (was.dealt r plain)
           (of_flow (goal.F-post g c.args.slot_of) c.flow.result d.event.flow slot flow fits c.slot_of-slot.ensures) is (λ restoring. absurd (false≢true (sym plain ∙ restoring)));
       count = omega (arith, ap length c.push-in-loop-delivery.ensures.items, length_push c.loop-delivery.to.items l, was.count);
+      round =
+          subst (λ (xs : List Entries). IsRound c.pin_among.new.round (loads_in xs) c.push.new.opened) (sym c.push.ensures.lanes)
+          (round_dealt ls l y (omega (arith, c.requires.there l is.there, was.long)) c.pin_among.new.round c.loop-delivery.opened c.push.new.opened c.push.ensures.fewer c.in-Some.ensures.round);
       opened = c.push.ensures.open c.args.opened.now was.opened;
       long = ap length c.push.ensures.lanes ∙ (length-set ls l (entries_of ((lane_in ls l).entries ++ y ∷ []) (lane_in ls l).capacity) ∙ was.long);
       others = λ m out. ap (λ xs. lane_in xs m) c.push.ensures.lanes ∙ others_stay ls c.args.lanes.now l y c.args.opened.now is.there was.others m out;
@@ -78,3 +83,14 @@ loop-delivery-preserved g c =
           (subst (λ xs. (s m : ℕ) → Has c.args.opened.now m → IsTrue (may_pin (pin_at (with_pinned ps slot l) s) m) → (pin_at (with_pinned ps slot l) s).count + room_at xs m ≤ MAX_DEPTH) (sym c.push.ensures.lanes)
           (counts_dealt ls l y there is.room ps c.args.opened.now slot is.may is.there was.counts));
     }
+
+-- the row ends where no open lane may have the next event's slot
+pub returns-in_default-clause-last : goal.returns-in_default-clause-last
+returns-in_default-clause-last g c few =
+    let was = c.loop-delivery.invariant in
+    let d : Delivery = c.delivery-item.result in
+    let slot : ℕ = c.slot_of-slot.result in
+    let flow : c.flow.result ≡ d.event.flow = c.flow.ensures ∙ ap (λ (e : Event). e.flow) c.packed.ensures in
+    let fits : c.flow.result < 2 ^ 32 = omega (arith, c.flow.ensures, c.packed.result.flow_fits) in
+    no_lane (OfFlows (goal.F-post g c.args.slot_of)) c.args.opened.now c.loop-delivery.opened c.loop-delivery.pins c.pin_among.new.pins c.loop-delivery.lanes c.args.row.now c.loop-delivery.delivery-index (length c.loop-delivery.to.items) d slot was.count c.loop-delivery-test.true
+    c.delivery-item.is (of_flow (goal.F-post g c.args.slot_of) c.flow.result d.event.flow slot flow fits c.slot_of-slot.ensures) was.opened c.in_default.ensures.same c.in_default.ensures.none

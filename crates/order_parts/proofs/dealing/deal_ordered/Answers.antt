@@ -1,17 +1,19 @@
-use Rattle.std.proofs.Common.{◌≡◌, ◌+◌, ◌-◌, ◌<◌, ◌^◌, ◌++◌, ◌∷◌, [], ℕ, List, ap, arith, length, refl, sym, ◌∙◌}
+use Rattle.std.proofs.Common.{◌≡◌, ◌+◌, ◌-◌, ◌<◌, ◌^◌, ◌++◌, ◌∷◌, [], ℕ, List, ap, arith, length, refl, subst, sym, ◌∙◌}
 use Rattle.std.proofs.lemmas.Bool.{cond-true}
 use Rattle.std.proofs.lemmas.List.{length-set, length_push}
 use Rattle.evt_types.specs.declared.event.Delivery.{Delivery}
 use Rattle.evt_types.specs.declared.event.Event.{Event}
-use Rattle.order_parts.specs.Dealing.{IsBestOpen}
+use Rattle.order_parts.specs.Dealing.{loads_in, IsBestOpen}
 use Rattle.order_parts.specs.HandedRow.{OfFlows}
 use Rattle.order_parts.specs.Histories.{lane_in}
 use Rattle.order_parts.specs.History.{Entries, entries_of}
 use Rattle.order_parts.specs.Orders.{handed, is_restoring}
 use Rattle.order_parts.specs.Reorder.{Reordering, after_hand, open_place}
+use Rattle.order_parts.specs.Rounds.{IsRound}
 use Rattle.order_parts.specs.declared.history.Entry.{Entry}
-use Rattle.order_parts.proofs.Dealt.{best_unpinned, dealt_next, others_stay}
+use Rattle.order_parts.proofs.Dealt.{best_unpinned, dealt_next, no_lane, others_stay}
 use Rattle.order_parts.proofs.HandedOn.{of_flow}
+use Rattle.order_parts.proofs.Rounds.{round_dealt}
 use Rattle.order_parts.proofs.dealing.deal_ordered.Goals as goal
 use Rattle.order_parts.proofs.dealing.deal_ordered.Goals.{In-Some}
 use Rattle.order_parts.proofs.dealing.deal_ordered.Given as given
@@ -20,8 +22,8 @@ use Rattle.order_parts.proofs.dealing.deal_ordered.Given as given
 best : (g : given.Over) (c : In-Some g) → IsBestOpen [] c.loop-delivery.lanes c.args.opened.now c.slot_of-slot.result c.in-Some.lane
 best g c = best_unpinned c.loop-delivery.lanes c.args.opened.now c.loop-delivery.opened c.slot_of-slot.result c.in-Some.lane c.loop-delivery.invariant.opened c.in-Some.ensures.there c.in-Some.ensures.best
 
-pub least_loaded-requires : goal.least_loaded-requires
-least_loaded-requires g c l has =
+pub next-requires-clause-there : goal.next-requires-clause-there
+next-requires-clause-there g c l has =
     let was = c.loop-delivery.invariant in
     let there = c.requires.there l ((was.opened l).0 has).0 in
     omega (arith, there, was.long)
@@ -61,9 +63,23 @@ loop-delivery-preserved g c =
           c.hand-place.new.self [] [] ls c.push.new.lanes c.loop-delivery-test.true c.delivery-item.is c.push-in-loop-delivery.ensures.items c.number-number.ensures order refl c.push.ensures.lanes was.dealt
           (of_flow (goal.F-post g c.args.slot_of) c.flow.result d.event.flow slot flow fits c.slot_of-slot.ensures) is (λ restoring. c.hand-place.ensures.value);
       count = omega (arith, ap length c.push-in-loop-delivery.ensures.items, length_push c.loop-delivery.to.items l, was.count);
+      round =
+          subst (λ (xs : List Entries). IsRound c.next.new.self (loads_in xs) c.push.new.opened) (sym c.push.ensures.lanes)
+          (round_dealt ls l y (omega (arith, c.requires.there l is.there, was.long)) c.next.new.self c.loop-delivery.opened c.push.new.opened c.push.ensures.fewer c.in-Some.ensures.round);
       opened = c.push.ensures.open c.args.opened.now was.opened;
       long = ap length c.push.ensures.lanes ∙ (length-set ls l (entries_of ((lane_in ls l).entries ++ y ∷ []) (lane_in ls l).capacity) ∙ was.long);
       others = λ m out. ap (λ xs. lane_in xs m) c.push.ensures.lanes ∙ others_stay ls c.args.lanes.now l y c.args.opened.now is.there was.others m out;
       restores = ap is_restoring c.hand-place.ensures.handed ∙ was.restores;
       places = omega (arith, ap (λ (x : Reordering). length x.places) c.hand-place.ensures.handed, ap (λ (x : Reordering). x.depth) c.hand-place.ensures.handed, length_push r.places (open_place c.number-number.result), was.places, rest);
     }
+
+-- the row ends where no open lane may have the next event's slot
+pub returns-in_default-clause-last : goal.returns-in_default-clause-last
+returns-in_default-clause-last g c few =
+    let was = c.loop-delivery.invariant in
+    let d : Delivery = c.delivery-item.result in
+    let slot : ℕ = c.slot_of-slot.result in
+    let flow : c.flow.result ≡ d.event.flow = c.flow.ensures ∙ ap (λ (e : Event). e.flow) c.packed.ensures in
+    let fits : c.flow.result < 2 ^ 32 = omega (arith, c.flow.ensures, c.packed.result.flow_fits) in
+    no_lane (OfFlows (goal.F-post g c.args.slot_of)) c.args.opened.now c.loop-delivery.opened [] [] c.loop-delivery.lanes c.args.row.now c.loop-delivery.delivery-index (length c.loop-delivery.to.items) d slot was.count c.loop-delivery-test.true
+    c.delivery-item.is (of_flow (goal.F-post g c.args.slot_of) c.flow.result d.event.flow slot flow fits c.slot_of-slot.ensures) was.opened refl (λ l has may. c.in_default.ensures.none l has)

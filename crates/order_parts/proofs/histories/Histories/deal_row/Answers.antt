@@ -10,7 +10,7 @@ use Rattle.order_parts.specs.Reorder.{Reordering}
 use Rattle.order_parts.specs.declared.all_orders.AllOrders.TheInside.{Inside as Orders}
 use Rattle.order_parts.specs.declared.histories.Histories.TheInside.{Inside}
 use Rattle.order_parts.proofs.Buffers.{order_read, restores, shown_set, shown_there}
-use Rattle.order_parts.proofs.Dealt.{dealt_same, roomy_dealt}
+use Rattle.order_parts.proofs.Dealt.{dealt_same, last_same, roomy_dealt}
 use Rattle.order_parts.proofs.Fewest.{has_low}
 use Rattle.order_parts.proofs.ShownLists.{shown_at}
 use Rattle.small_set.specs.SmallSets.{Has}
@@ -80,4 +80,22 @@ returns-clause-dealt g c =
           (ap (λ (ps : List (List Pin)). pins_at ps c.args.queue) w.pins-is
           ∙ get_or-set_same c.pins.inside.queues.items c.args.queue w.deal_each.new.pins [] (subst (λ (ps : List (List Pin)). c.args.queue < length ps) (sym c.pins.view_is) c.requires.pins))
           (ap (λ (a : Inside). a.lanes.items) w.self-inside-is ∙ with_items_is c.self.inside.lanes w.deal_each.new.lanes (w.deal_each.ensures.count ∙ w.deref_mut-in-None.ensures.len)) (w.deal_each.ensures.dealt r plain)
+    ]
+
+pub returns-clause-last : goal.returns-clause-last
+returns-clause-last g c =
+    let os : List (Option Reordering) = c.orders.inside.queues.items in
+    let was : order_at c.args.orders.now c.args.queue ≡ shown c.index_mut.result.now = order_read os c.args.orders.now c.args.queue c.index_mut.result.now c.orders.view_is c.requires.order c.index_mut.ensures.value in
+    elim c.match-index_mut.branch [
+      | in-Some w ↦
+          let restores : is_restoring w.in-Some.order ≡ true = restores os c.args.orders.now c.args.queue c.index_mut.result.now w.in-Some.order c.orders.invariant.buffers c.orders.view_is c.requires.order c.index_mut.ensures.value w.in-Some.is in
+          let bare : pins_at c.args.pins.now c.args.queue ≡ [] = c.requires.unpinned (ap is_restoring (was ∙ ap shown w.in-Some.is) ∙ restores) in
+          last_same _ c.args.among [] (pins_at c.match-index_mut.pins c.args.queue) w.deal_ordered.new.lanes _ c.args.row.now w.deal_ordered.new.to.items c.match-index_mut.to.items (ap (λ (v : ArrayVec ℕ). v.items) w.to-is)
+          (ap (λ (ps : List (List Pin)). pins_at ps c.args.queue) w.pins-is ∙ bare)
+          (ap (λ (a : Inside). a.lanes.items) w.self-inside-is ∙ with_items_is c.self.inside.lanes w.deal_ordered.new.lanes (w.deal_ordered.ensures.count ∙ w.deref_mut.ensures.len)) w.deal_ordered.ensures.last
+      | in-None w ↦
+          last_same _ c.args.among w.deal_each.new.pins (pins_at c.match-index_mut.pins c.args.queue) w.deal_each.new.lanes _ c.args.row.now w.deal_each.new.to.items c.match-index_mut.to.items (ap (λ (v : ArrayVec ℕ). v.items) w.to-is)
+          (ap (λ (ps : List (List Pin)). pins_at ps c.args.queue) w.pins-is
+          ∙ get_or-set_same c.pins.inside.queues.items c.args.queue w.deal_each.new.pins [] (subst (λ (ps : List (List Pin)). c.args.queue < length ps) (sym c.pins.view_is) c.requires.pins))
+          (ap (λ (a : Inside). a.lanes.items) w.self-inside-is ∙ with_items_is c.self.inside.lanes w.deal_each.new.lanes (w.deal_each.ensures.count ∙ w.deref_mut-in-None.ensures.len)) w.deal_each.ensures.last
     ]

@@ -35,7 +35,7 @@ use Rattle.sched_core.proofs.Pinned.{may_is_alone, pin_room_for}
 use Rattle.sched_core.proofs.Runs.{AreServing, left_on, serving_on, times_none, turn_on}
 use Rattle.sched_core.proofs.Sound.{core_sized}
 use Rattle.sched_core.specs.GiftRows.{pinned_on}
-use Rattle.sched_core.specs.Offered.{AreOpenLanes, FitsSlot, IsOpenLane, numbered_in}
+use Rattle.sched_core.specs.Offered.{AreOpenLanes, FitsSlot, IsOpenLane}
 use Rattle.sched_core.specs.Runs.{AreDeals, AreDealtOut, HasLeft, HasTurn, gift_of, gifts_to, given_once, given_times}
 use Rattle.sched_core.specs.View.{IsCore, unanswered_in, view_in}
 use Rattle.sched_core.specs.declared.state.Core.TheInside.{Inside}

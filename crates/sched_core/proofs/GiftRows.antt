@@ -1,5 +1,5 @@
 -- A core after a row of events is handed to a lane: that what holds of each core holds of it, and that each event was the choice.
-use Rattle.std.proofs.Common.{◌≡◌, ◌↔◌, ℕ, ◌+◌, ◌<◌, ◌≤◌, ◌%◌, append_assoc, drop, take, eqb-true, true, false, List, [], ◌∷◌, ◌++◌, length, map, set, get_or, All, Contains, IsTrue, Some, refl, sym, ap, ◌∙◌, subst, arith}
+use Rattle.std.proofs.Common.{◌≡◌, ◌↔◌, ℕ, ◌+◌, ◌<◌, ◌≤◌, ◌%◌, append_assoc, drop, take, eqb-true, true, false, List, [], ◌∷◌, ◌++◌, length, map, set, get_or, All, Contains, Some, refl, sym, ap, ◌∙◌, subst, arith}
 use Rattle.std.proofs.lemmas.Grind.{get_or-set_at}
 use Rattle.std.specs.List.{take-map}
 use Rattle.std.proofs.lemmas.List.{get_or-set_same, length-map, length-set, set-get_or, set-set, take-append-drop}
@@ -14,8 +14,7 @@ use Rattle.evt_types.specs.declared.step.Step.TheVariants.{Give}
 use Rattle.order_parts.specs.Dealing.{with_entry}
 use Rattle.order_parts.specs.History.{Entries}
 use Rattle.order_parts.specs.Orders.{handed, is_restoring, order_at}
-use Rattle.order_parts.specs.Pins.{Pin, may_pin}
-use Rattle.order_parts.specs.QueuePins.{pin_in}
+use Rattle.order_parts.specs.Pins.{Pin}
 use Rattle.order_parts.specs.Reorder.{Reordering, next_number}
 use Rattle.order_parts.specs.declared.history.Entry.{Entry}
 use Rattle.parked_queue.proofs.LevelHeads.{first_at, rest_at}

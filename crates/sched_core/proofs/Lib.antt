@@ -5,6 +5,7 @@ pub mod Answering
 pub mod AtFront
 pub mod Cores
 pub mod Deals
+pub mod DealsBehind
 pub mod Counted
 pub mod FirstOnes
 pub mod Forwarded

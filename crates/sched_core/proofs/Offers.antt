@@ -8,7 +8,7 @@ use Rattle.transcripts.specs.Allowed.{Allowed}
 use Rattle.transcripts.specs.Choice.{Passed, Fits, HasNoOther, HasNone, HasQuota, IsBetterLane, IsChoice, IsOffer, IsServedBefore, WaitsIn, is_earlier}
 use Rattle.transcripts.specs.Lawful.{keeps_order}
 use Rattle.evt_types.specs.Plan.{Plan, queue_of, level_of, slot_of, serves, is_atomic, is_ordered}
-use Rattle.transcripts.specs.Standing.{View, Stands, waiting_at, unanswered_at}
+use Rattle.transcripts.specs.Standing.{View, Stands, waiting_at}
 use Rattle.transcripts.specs.Transcript.{event_at}
 use Rattle.evt_types.specs.declared.event.Event.{Event}
 use Rattle.evt_types.specs.declared.event.Kind.{Kind}

@@ -1,15 +1,14 @@
 -- Which lanes are open to a queue, and the best of them: a walk over a set of lanes, the lane of a pinned slot, and what flow lanes serve.
-use Rattle.std.proofs.Common.{◌≡◌, ◌≢◌, ℕ, ◌+◌, ◌*◌, ◌/◌, ◌%◌, ◌^◌, ◌<◌, ◌≤◌, true, false, [], length, map, get_or, Option, Some, None, IsTrue, inl, inr, ◌⊎◌, ⊎_elim, refl, sym, ap, ◌∙◌, subst, arith}
+use Rattle.std.proofs.Common.{◌≡◌, ℕ, ◌+◌, ◌*◌, ◌/◌, ◌%◌, ◌<◌, true, false, [], length, map, get_or, Option, Some, None, IsTrue, inl, inr, sym, ap, ◌∙◌, subst, arith}
 use Rattle.std.specs.Prelude.{◌↔◌}
 use Rattle.std.specs.Option.{IfSome, IfNone}
-use Rattle.std.proofs.lemmas.Bool.{and_parts, cond-true, cases_eq, cases_lt, false≢true, false_from_ne_true}
+use Rattle.std.proofs.lemmas.Bool.{and_parts, cond-true, false≢true, false_from_ne_true}
 use Rattle.evt_types.proofs.FlowLanes.{serves_port, port_is_lane}
 use Rattle.evt_types.specs.Plan.{Plan, depth_of, is_flows, has_flow_lanes, lanes_of, serves, queue_of, is_atomic}
 use Rattle.std.proofs.lemmas.List.{length-map}
 use Rattle.std.proofs.lemmas.Nat.{div-mul-add, mod-mul-add}
-use Rattle.std.proofs.lemmas.Nat.Bits.{bit_at_above}
 use Rattle.lists.specs.Lists.{has}
-use Rattle.small_set.specs.SmallSets.{Has, IsEmpty, IsFirst, SameBut}
+use Rattle.small_set.specs.SmallSets.{Has, IsEmpty}
 use Rattle.small_set.specs.declared.set.SmallSet.{SmallSet}
 use Rattle.sched_core.proofs.Offers.{fits_slot}
 use Rattle.sched_core.proofs.News.{slots_range}

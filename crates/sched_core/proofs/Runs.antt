@@ -1,6 +1,6 @@
 -- A run of gifts: what a gift leaves of the choice, and the choices one after another.
 use Rattle.std.proofs.Common.{◌≡◌, ◌≢◌, ◌↔◌, ℕ, ◌<◌, ◌≤◌, ◌+◌, Bool, true, false, cond, not, nat_lt, ◌&&◌, ◌||◌, ◌==◌, List, [], ◌∷◌, ◌++◌, length, filter, set, get_or, All, Contains, inl, inr, ⊎_elim, refl, sym, ap, ◌∙◌, subst, append_assoc, append-nil, arith}
-use Rattle.std.proofs.lemmas.Bool.{cases_eq, false≢true, lt-ltb}
+use Rattle.std.proofs.lemmas.Bool.{cases_eq, eq-eqb, false≢true, lt-ltb, ne_eqb}
 use Rattle.std.proofs.lemmas.Grind.{get_or-set_at}
 use Rattle.std.proofs.lemmas.List.{get_or-set_other, get_or-set_same, length-append, map_push, set-get_or}
 use Rattle.std.proofs.lemmas.List.Elements.{All-head, All-tail, All-contains, All-contains_itself, All-filter}
@@ -12,7 +12,7 @@ use Rattle.evt_types.specs.declared.event.Numbered.{Numbered}
 use Rattle.evt_types.specs.declared.step.Step.{Step}
 use Rattle.evt_types.specs.declared.step.Step.TheVariants.{Give}
 use Rattle.sched_core.proofs.Offers.{IsOfferAt, choice_is_offer, not_earlier}
-use Rattle.sched_core.specs.Offered.{AreOpenLanes, HasPlace, IsOfferIn, IsOpenLane, numbered_in}
+use Rattle.sched_core.specs.Offered.{AreOpenLanes, FitsSlot, HasAllowed, HasPlace, IsOfferIn, IsOpenLane, numbered_in}
 use Rattle.sched_core.specs.Sized.{IsSized}
 use Rattle.sched_core.specs.declared.offer.Offer.{Offer}
 use Rattle.sched_core.specs.Runs.{AreChoices, AreGiven, HasLeft, HasTurn, IsSteady, gift_of, gifts_of, given_once, given_times}
@@ -101,6 +101,20 @@ module _ (v : View) (s : Passed) (l q : ℕ) (w : Numbered) (sized : IsSized v) 
       by_kind true = longer
       by_kind false = omega arith
 
+  -- a lane that fits a slot then did so before
+  slot_before : (m r slot : ℕ) → FitsSlot (after_give v l q w.number) (given_once s q) r slot m → FitsSlot v s r slot m
+  slot_before m r slot fits =
+      let fewer = more_out m in
+      let room = fits.room in
+      record {
+        lane = fits.lane;
+        ready = fits.ready;
+        linked = fits.linked;
+        room = omega arith;
+        alone = λ atomic. none_other m r slot (fits.alone atomic);
+        places = λ ordered. let less = more_places r in let has = fits.places ordered in omega arith;
+      }
+
   -- a lane that fits an event then did so before
   fits_before : (m r : ℕ) (u : Numbered) → Fits (after_give v l q w.number) (given_once s q) m r u → Fits v s m r u
   fits_before m r u fits =
@@ -116,7 +130,7 @@ module _ (v : View) (s : Passed) (l q : ℕ) (w : Numbered) (sized : IsSized v) 
       }
 
   -- one event more is out at the lane alone, and has a place in the queue alone
-  out_one : length (unanswered_at (after_give v l q w.number) l) ≤ length (unanswered_at v l) + 1
+  out_one : length (unanswered_at (after_give v l q w.number) l) ≡ length (unanswered_at v l) + 1
   out_one =
       let held : Held = record { queue = q; number = w.number; slot = slot_in v q (event_in (waiting_at v q) w.number) } in
       omega (
@@ -350,6 +364,21 @@ steady_on l q more lanes w x t y u sized offer within steady view given =
 pub left_on : (l q more : ℕ) (w x : View) (t y : Passed) (u : Numbered) → IsSized w → IsOffer w l q u → q < length t.given → HasLeft w t q (more + 1) → x ≡ after w (Give l q u.number ∷ []) → y ≡ given_once t q → HasLeft x y q more
 left_on l q more w x t y u sized offer within left view given =
     subst (λ z. HasLeft z y q more) (sym view) (subst (λ z. HasLeft (after_give w l q u.number) z q more) (sym given) (left_after w t l q u sized offer more within left))
+
+-- no slot is allowed after a gift that wasn't before
+pub allowed_on : (l q : ℕ) (slots : SmallSet) (w x : View) (t y : Passed) (u : Numbered) → IsSized w → IsOffer w l q u → HasAllowed w t q slots → x ≡ after w (Give l q u.number ∷ []) → y ≡ given_once t q → HasAllowed x y q slots
+allowed_on l q slots w x t y u sized offer allowed view given =
+    subst (λ z. HasAllowed z y q slots) (sym view)
+    (subst (λ z. HasAllowed (after_give w l q u.number) z q slots) (sym given) (λ slot there is. allowed slot there (is.0, slot_before w t l q u sized offer is.0 q slot is.1)))
+
+-- what is out at a lane after a gift
+pub out_on : (l q m : ℕ) (w x : View) (t : Passed) (u : Numbered) → IsSized w → IsOffer w l q u → x ≡ after w (Give l q u.number ∷ []) → length (unanswered_at x m) ≡ length (unanswered_at w m) + cond (l == m) 1 0
+out_on l q m w x t u sized offer view =
+    ap (λ (z : View). length (unanswered_at z m)) view
+    ∙ ⊎_elim
+    (λ e. subst (λ k. length (unanswered_at (after_give w l q u.number) k) ≡ length (unanswered_at w k) + cond (l == k) 1 0) e (out_one w t l q u sized offer ∙ ap {B = ℕ} (λ b. length (unanswered_at w l) + cond b 1 0) (sym (eq-eqb l l refl))))
+    (λ ne. omega (arith, out_other w t l q u sized offer m (λ e. ne (sym e)), ap {B = ℕ} (λ b. cond b 1 0) (ne_eqb l m ne)))
+    (cases_eq l m)
 
 -- the same lanes are open after a gift
 pub open_on : (l q : ℕ) (lanes : SmallSet) (w x : View) (t y : Passed) (u : Numbered) → IsSized w → IsOffer w l q u → AreOpenLanes w t q lanes → x ≡ after w (Give l q u.number ∷ []) → y ≡ given_once t q → HasPlace x q

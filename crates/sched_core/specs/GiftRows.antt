@@ -7,7 +7,6 @@ use Rattle.order_parts.specs.Orders.{handed, is_restoring, order_at}
 use Rattle.order_parts.specs.Pins.{Pin, may_pin, pinned}
 use Rattle.order_parts.specs.QueuePins.{pin_in, with_pin}
 use Rattle.order_parts.specs.Reorder.{Reordering, next_number}
-use Rattle.order_parts.specs.declared.history.Entry.{Entry}
 
 -- the slot of a delivery's event, of so many
 abbrev pub slot_in_row : ℕ → Delivery → ℕ

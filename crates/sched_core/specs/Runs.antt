@@ -74,6 +74,13 @@ pub record AreDealtOut (q most : ℕ) (among : SmallSet) (v : View) (s : Passed)
   pub few : length ds ≤ most
   pub shape : w.shape ≡ v.shape
 
+-- This event of the queue was the choice, for the lane, and is given to it.
+pub record IsNextGift (q : ℕ) (v : View) (s : Passed) (l : ℕ) (d : Delivery) (w : View) (t : Passed) : Type 0 where
+  pub choice : IsChoice v s l d.queue (numbered_in d)
+  pub named : d.queue ≡ q
+  pub view : w ≡ after v (gift_of l d ∷ [])
+  pub passed : t ≡ given_once s q
+
 -- ---- how a run goes on
 
 -- Nothing can be given of the queues that are served before this one, and of its own levels before this one.

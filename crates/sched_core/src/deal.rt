@@ -1,15 +1,15 @@
 //! Where several lanes are open, the first events of a queue and level are dealt among them as a row.
 
-ghost use Rattle.std.specs.Prelude.{◌≡◌, ℕ, ◌+◌, ◌-◌, ◌<◌, ◌≤◌, [], ◌++◌, List, All, true, false, length, take, slice_index, IfSome, IsTrue};
+ghost use Rattle.std.specs.Prelude.{◌≡◌, ℕ, ◌+◌, ◌-◌, ◌<◌, ◌≤◌, [], ◌++◌, List, All, true, false, length, take, slice_index, IfNone, IfSome, IsTrue};
 ghost use Rattle.evt_types.specs.Plan.{depth_of, has_flow_lanes};
 ghost use Rattle.evt_types.specs.declared.shape.TheConstants.{MAX_QUEUES};
-ghost use Rattle.sched_core.specs.Offered.{AreOpenLanes, numbered_in};
-ghost use Rattle.sched_core.specs.Runs.{AreDeals, AreDealtOut, HasLeft, HasTurn, IsChoiceAmong, gifts_to, times};
+ghost use Rattle.sched_core.specs.Offered.{AreOpenLanes, HasAllowed, numbered_in};
+ghost use Rattle.sched_core.specs.Runs.{AreDeals, AreDealtOut, HasLeft, HasTurn, IsChoiceAmong, IsNextGift, given_times, gifts_to, times};
 ghost use Rattle.small_set.specs.SmallSets.{Has};
-ghost use Rattle.transcripts.specs.Choice.{IsChoice};
+ghost use Rattle.transcripts.specs.Choice.{HasQuota, IsChoice};
 ghost use Rattle.transcripts.specs.Standing.{unanswered_at};
 
-use crate::offer::Offer;
+use crate::offer::{Offer, numbered};
 use crate::run::MAX_RUN;
 use crate::skips::Skips;
 use crate::state::Core;
@@ -20,23 +20,27 @@ use small_set::{MAX_MEMBERS, SmallSet};
 use step_log::StepLog;
 
 impl Core {
-    /// The lanes that are open to the offer's queue, where its events are worth dealing: several wait, none is set aside, ports serve it,
-    /// and several lanes are open.
+    /// The lanes that are open to the offer's queue, where its events are worth dealing: several wait, ports serve it, and several lanes are
+    /// open, or one of which several places are free while events of the level are set aside.
     #[inline(always)]
     pub fn deals(&self, offer: &Offer, skips: &Skips) -> Option<SmallSet>
         requires choice { IsChoice self.now skips.now offer.now.lane offer.now.delivery.queue (numbered_in offer.now.delivery) }
         ensures { IfSome result (λ among. IsChoiceAmong self.now skips.now among offer.now) }
     {
         let queue = offer.delivery.queue();
-        if self.queues.count(queue) < 2
-            || !self.queues.parked_slots(queue, offer.level).is_empty()
-            || self.has_flow_lanes(queue)
-        {
+        if self.queues.count(queue) < 2 || self.has_flow_lanes(queue) {
             return None;
         }
         let among = self.open_lanes(queue, skips);
         let mut others = among;
-        if others.pop().is_none() || others.is_empty() {
+        if others.pop().is_none() {
+            return None;
+        }
+        // A lane that is open alone is given a row of what isn't set aside, and one event by itself.
+        if others.is_empty()
+            && (self.lanes.room(offer.lane) < 2
+                || self.queues.parked_slots(queue, offer.level).is_empty())
+        {
             return None;
         }
         Some(among)
@@ -96,6 +100,105 @@ impl Core {
         self.queues.remove_row(queue, level, run.as_slice());
     }
 
+    /// Hands out the first event of the queue's level that one of these lanes may take, and counts it as given. It isn't logged yet.
+    #[inline(always)]
+    fn hand_next(
+        &mut self,
+        queue: usize,
+        level: Level,
+        lanes: SmallSet,
+        allowed: SmallSet,
+        skips: &mut Skips,
+    ) -> Option<Offer>
+        requires turn { HasTurn self.old skips.old queue level.number }
+        requires quota { HasQuota self.old skips.old queue }
+        requires lanes { AreOpenLanes self.old skips.old queue lanes }
+        requires allowed { HasAllowed self.old skips.old queue allowed }
+        ensures given { IfSome result (λ o. IsNextGift queue self.old skips.old o.lane o.delivery self.new skips.new) }
+        ensures none { IfNone result ((self.new ≡ self.old) × (skips.new ≡ skips.old)) }
+    {
+        self.facts();
+        let offer = self.offer_behind(queue, level, lanes, allowed, skips)?;
+        let waiting = numbered(&offer.delivery);
+        self.hand_out(offer.lane, queue, &waiting, level, offer.slot);
+        skips.given(queue);
+        Some(offer)
+    }
+
+    /// As `deal_out`, one by one, where events of the level are set aside. They count as given in what the sweep passes over.
+    #[inline(always)]
+    fn deal_behind(
+        &mut self,
+        queue: usize,
+        level: Level,
+        among: SmallSet,
+        bound: usize,
+        skips: &mut Skips,
+        run: &mut ArrayVec<Delivery, 32>,
+        to: &mut ArrayVec<usize, 32>,
+    )
+        requires turn { HasTurn self.old skips.old queue level.number }
+        requires ports { has_flow_lanes self.old.shape queue ≡ false }
+        requires lanes { AreOpenLanes self.old skips.old queue among }
+        requires left { HasLeft self.old skips.old queue bound }
+        requires counts { length skips.old.given ≡ MAX_QUEUES }
+        requires room { bound ≤ 32 }
+        requires none { run.old.items ≡ [] }
+        requires no_lanes { to.old.items ≡ [] }
+        ensures dealt { AreDealtOut queue bound among self.old skips.old run.new.items to.new.items self.new }
+        ensures passed { skips.new ≡ given_times skips.old queue (length run.new.items) }
+    {
+        self.facts();
+        let mut opened = among;
+        let mut allowed = self.allowed(queue, opened, skips);
+        // Where no slot is allowed, what waits isn't looked at, so that none of it is set aside.
+        while run.len() < bound && !allowed.is_empty() {
+            self.facts();
+            let Some(offer) = self.hand_next(queue, level, opened, allowed, skips) else {
+                return;
+            };
+            run.push(offer.delivery);
+            to.push(offer.lane);
+            if run.len() < bound && self.lane_room(offer.lane) == 0 {
+                opened.remove(offer.lane);
+                allowed = self.allowed(queue, opened, skips);
+            }
+        }
+    }
+
+    /// Deals the first events of the queue's level among these lanes, each of which is the choice then: as a row, or one by one where some of
+    /// the level are set aside. They count as given. Nothing is logged yet.
+    #[inline(always)]
+    fn deal_first(
+        &mut self,
+        queue: usize,
+        level: Level,
+        among: SmallSet,
+        bound: usize,
+        skips: &mut Skips,
+        run: &mut ArrayVec<Delivery, 32>,
+        to: &mut ArrayVec<usize, 32>,
+    )
+        requires turn { HasTurn self.old skips.old queue level.number }
+        requires ports { has_flow_lanes self.old.shape queue ≡ false }
+        requires lanes { AreOpenLanes self.old skips.old queue among }
+        requires left { HasLeft self.old skips.old queue bound }
+        requires counts { length skips.old.given ≡ MAX_QUEUES }
+        requires room { bound ≤ 32 }
+        requires none { run.old.items ≡ [] }
+        requires no_lanes { to.old.items ≡ [] }
+        ensures dealt { AreDealtOut queue bound among self.old skips.old run.new.items to.new.items self.new }
+        ensures passed { skips.new ≡ given_times skips.old queue (length run.new.items) }
+    {
+        if !self.queues.parked_slots(queue, level).is_empty() {
+            self.deal_behind(queue, level, among, bound, skips, run, to);
+            return;
+        }
+        self.facts();
+        self.deal_out(queue, level, among, bound, skips, run, to);
+        skips.given_row(queue, run.len());
+    }
+
     /// Gives what is chosen, from what was proposed on, as long as just these lanes are open, those are events of its queue and level that
     /// are quick to see, and they are no more than `most`, and than `MAX_RUN`: `run` then has just these, in their order, and `to` the
     /// lane of each; the log has their steps, and they count as given in what the sweep passes over. Where none is quick to see nothing
@@ -127,9 +230,7 @@ impl Core {
         let bound = left.min(most).min(MAX_RUN);
         self.facts();
         run.clear();
-        self.deal_out(queue, offer.level, among, bound, skips, run, to);
-        let row = run.as_slice();
-        log.push_deals(queue, row, to.as_slice());
-        skips.given_row(queue, row.len());
+        self.deal_first(queue, offer.level, among, bound, skips, run, to);
+        log.push_deals(queue, run.as_slice(), to.as_slice());
     }
 }

@@ -251,8 +251,8 @@ impl Core {
 
     /// The first event of the queue's level that some lane may take, for the best lane, as it is searched. A slot whose event no
     /// lane may take is asked once.
-    #[cold]
-    fn offer_behind(
+    #[inline(always)]
+    pub(crate) fn offer_behind(
         &mut self,
         queue: usize,
         level: Level,

@@ -6,13 +6,13 @@ use crate::fault::RunFault;
 use crate::moves::{Made, Move};
 use crate::pair::Pair;
 use core_oracle::PlainTook;
-use evt_types::{Kind, MAX_EXTRAS, Serving};
+use evt_types::{Kind, MAX_EXTRAS, Op, Serving};
 use std::alloc::Global;
 
 /// How many seeds a device is run with.
 const SEEDS: u64 = 50;
 /// How many turns a run has.
-const TURNS: usize = 800;
+const TURNS: usize = 1000;
 /// How often a thing happens at least in the runs of a device, if they are worth the comparison.
 const OFTEN: u32 = 100;
 
@@ -126,9 +126,14 @@ struct Seen {
     given: u32,
     bounced: u32,
     nothing: u32,
-    /// A run gave more than one event, and it was known whose turn it was.
+    /// More than one event was given together, to several lanes, and it was known whose turn it was.
     long: u32,
+    dealt: u32,
     by_turn: u32,
+    /// More than one reply was taken in a row: NEWs, FORWARDs and RELEASEs.
+    news: u32,
+    forwards: u32,
+    releases: u32,
     /// What was added beside an unanswered event was accepted at once, was kept, or was refused; and an event had as many as there
     /// may be.
     added: u32,
@@ -153,18 +158,32 @@ impl Seen {
             Made::Gave(Some(_)) => &mut self.given,
             Made::Bounced(Some(_)) => &mut self.bounced,
             Made::Gave(None) | Made::Bounced(None) => &mut self.nothing,
-            Made::Nothing => return,
+            Made::TookRow(2..) => self.row(step),
+            Made::TookRow(_) | Made::Nothing => return,
         };
         *count = count.saturating_add(1);
     }
 
-    /// Notes of how many events the last run was, and whether it was known whose turn it was, where events were given.
-    fn note_run(&mut self, made: Made, length: usize, knew_turn: bool) {
+    /// How often such replies as these were taken in a row.
+    fn row(&mut self, step: Move) -> &mut u32 {
+        match step {
+            Move::Replies { packet, .. } if packet.op == Op::New => &mut self.news,
+            Move::Replies { packet, .. } if packet.op == Op::Forward => &mut self.forwards,
+            _ => &mut self.releases,
+        }
+    }
+
+    /// Notes how many events were given together, whether to several lanes, and whether it was known whose turn it was, where events were
+    /// given.
+    fn note_run(&mut self, made: Made, length: usize, has_dealt: bool, knew_turn: bool) {
         if !matches!(made, Made::Gave(Some(_))) {
             return;
         }
         if length > 1 {
             self.long = self.long.saturating_add(1);
+        }
+        if has_dealt {
+            self.dealt = self.dealt.saturating_add(1);
         }
         if knew_turn {
             self.by_turn = self.by_turn.saturating_add(1);
@@ -188,6 +207,10 @@ impl Seen {
             self.refused,
             self.given,
             self.long,
+            self.dealt,
+            self.news,
+            self.forwards,
+            self.releases,
             self.bounced,
             self.nothing,
             self.not_added,
@@ -216,7 +239,7 @@ fn make_drawn(pair: &mut Pair, drawing: &mut Drawing, seen: &mut Seen) -> Result
         let knew_turn = pair.knows_turn();
         let made = pair.make(step)?;
         seen.note(step, made);
-        seen.note_run(made, pair.run_len(), knew_turn);
+        seen.note_run(made, pair.run_len(), pair.has_dealt(), knew_turn);
         if let Some(lane) = step.adds_on() {
             seen.note_extras(pair.extras_len(lane));
         }

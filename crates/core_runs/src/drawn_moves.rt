@@ -1,6 +1,7 @@
 //! Moves that are drawn at random from a seed.
 
 use crate::moves::{Move, Packet};
+use crate::run::MAX_ROW;
 use evt_types::Op;
 use rand_core::utils::NextWord;
 use rand_pcg::Pcg32;
@@ -113,6 +114,23 @@ impl Drawing {
         Move::Reply { lane, packet }
     }
 
+    /// Replies that are alike, of an operation that goes in rows.
+    fn replies(&mut self) -> Move {
+        let op = match self.below(4) {
+            0 => Op::New,
+            1..3 => Op::Forward,
+            _ => Op::Release,
+        };
+        let lane = self.lane(op);
+        let packet = self.packet(op);
+        let count = self.below(MAX_ROW - 1).saturating_add(2);
+        Move::Replies {
+            lane,
+            packet,
+            count,
+        }
+    }
+
     /// Events to be given, to a lane that has room for so many: mostly for few.
     fn give(&mut self) -> Move {
         let most = match self.below(4) {
@@ -123,7 +141,7 @@ impl Drawing {
         Move::Give { most }
     }
 
-    /// A move: mostly a reply, or events to be given; late in the run a shut now and then. Where events were given more are given
+    /// A move: mostly a reply, several that are alike, or events to be given; late in the run a shut now and then. Where events were given more are given
     /// often, so that a run follows another as in a sweep.
     pub(crate) fn next(&mut self, is_late: bool) -> Move {
         let gives_again = self.gave && self.below(3) == 0;
@@ -132,6 +150,7 @@ impl Drawing {
             0..50 => Move::Bounce,
             _ if gives_again => self.give(),
             50..230 => self.give(),
+            230..420 => self.replies(),
             _ => self.reply(),
         };
         self.gave = matches!(step, Move::Give { .. });

@@ -14,6 +14,11 @@ pub(crate) struct Packet {
 }
 
 impl Packet {
+    /// One that differs in its flow alone.
+    pub(crate) fn of_flow(&self, flow: u8) -> Packet {
+        Packet { flow, ..*self }
+    }
+
     /// The event.
     pub(crate) fn event(&self) -> Event {
         Event {
@@ -33,9 +38,20 @@ impl Packet {
 #[derive(Clone, Copy, Debug, PartialEq, Eq)]
 pub(crate) enum Move {
     /// A reply of the lane comes.
-    Reply { lane: usize, packet: Packet },
-    /// What is proposed is given, and in a run what is chosen after it: so many events at most.
-    Give { most: usize },
+    Reply {
+        lane: usize,
+        packet: Packet,
+    },
+    /// So many replies of the lane come that are alike but for their flows, the first of which is this one.
+    Replies {
+        lane: usize,
+        packet: Packet,
+        count: usize,
+    },
+    /// What is proposed is given, and with it what is chosen after it: so many events at most.
+    Give {
+        most: usize,
+    },
     /// What is proposed finds no room in the lane's ring.
     Bounce,
     /// New events are turned away from now on.
@@ -45,6 +61,18 @@ pub(crate) enum Move {
 }
 
 impl Move {
+    /// The same move, of as many replies as were taken.
+    pub(crate) fn with_count(self, made: Made) -> Move {
+        match (self, made) {
+            (Move::Replies { lane, packet, .. }, Made::TookRow(count)) => Move::Replies {
+                lane,
+                packet,
+                count,
+            },
+            _ => self,
+        }
+    }
+
     /// The lane beside whose oldest event an event comes to be added, if that is what is done.
     pub(crate) fn adds_on(&self) -> Option<usize> {
         match *self {
@@ -59,6 +87,8 @@ impl Move {
 pub(crate) enum Made {
     /// What became of a reply, where it may be taken.
     Took(Option<PlainTook>),
+    /// So many of the replies were taken, from the first on.
+    TookRow(usize),
     /// What was given first.
     Gave(Option<PlainOffer>),
     /// What found no room in the lane's ring.

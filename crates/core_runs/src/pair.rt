@@ -43,12 +43,17 @@ impl Pair {
         self.run.knows_turn()
     }
 
+    /// Whether what was given last went to several lanes.
+    pub(crate) fn has_dealt(&self) -> bool {
+        self.run.has_dealt()
+    }
+
     /// Both cores make one move. What comes of it must be the same, and what they log, and how many events are inside. What the core
-    /// gives in a run the plain core gives one by one.
+    /// gives together the plain core gives one by one, and of replies it takes as many as the core took in a row.
     pub(crate) fn make(&mut self, step: Move) -> Result<Made, RunFault> {
         let steps = self.run.log.len();
         let made = self.run.make(step)?;
-        let plainly = self.plain.make(step)?;
+        let plainly = self.plain.make(step.with_count(made))?;
         if made == plainly && self.goes_on_alike(made)? && self.logs_alike(steps) {
             return Ok(made);
         }
@@ -58,7 +63,7 @@ impl Pair {
         )?))
     }
 
-    /// Whether the plain core gives next what a run went on with.
+    /// Whether the plain core gives next what was given together.
     fn goes_on_alike(&mut self, made: Made) -> Result<bool, RunFault> {
         if !matches!(made, Made::Gave(Some(_))) {
             return Ok(true);

@@ -2,7 +2,7 @@
 
 use crate::device::Device;
 use crate::fault::RunFault;
-use crate::moves::{Made, Move};
+use crate::moves::{Made, Move, Packet};
 use core_oracle::{PlainCore, PlainSkips};
 use std::alloc::{AllocError, Global};
 
@@ -28,6 +28,11 @@ impl PlainRun {
     pub(crate) fn make(&mut self, step: Move) -> Result<Made, RunFault> {
         match step {
             Move::Reply { lane, packet } => Ok(Made::Took(self.core.take(lane, packet.event())?)),
+            Move::Replies {
+                lane,
+                packet,
+                count,
+            } => self.take_row(lane, packet, count),
             // The plain core gives one event at a time: what a run goes on with is asked of it one by one.
             Move::Give { .. } => Ok(self.give()?),
             Move::Bounce => Ok(self.bounce()?),
@@ -40,6 +45,17 @@ impl PlainRun {
                 Ok(Made::Nothing)
             }
         }
+    }
+
+    /// Takes so many replies one by one, of one flow after the other, up to the first that may not be taken.
+    fn take_row(&mut self, lane: usize, first: Packet, count: usize) -> Result<Made, RunFault> {
+        for index in 0..count {
+            let packet = first.of_flow(first.flow.wrapping_add((index & 0xff) as u8));
+            if self.core.take(lane, packet.event())?.is_none() {
+                return Ok(Made::TookRow(index));
+            }
+        }
+        Ok(Made::TookRow(count))
     }
 
     /// Gives what is proposed.

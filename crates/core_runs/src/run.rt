@@ -2,12 +2,12 @@
 
 use crate::device::Device;
 use crate::fault::RunFault;
-use crate::moves::{Made, Move};
+use crate::moves::{Made, Move, Packet};
 use arrayvec::ArrayVec;
 use core_oracle::{PlainOffer, PlainTook};
 use evt_types::{
-    Delivery, Event, KeptEvent, MAX_FORWARDS, MAX_LANES, MAX_QUEUES, MAX_SWEEP, PackedEvent, Reply,
-    Step,
+    Delivery, Event, KeptEvent, MAX_FORWARDS, MAX_LANES, MAX_QUEUES, MAX_SWEEP, Op, PackedEvent,
+    Reply, Step,
 };
 use sched_core::{Core, Skips, Took, Turn};
 use std::alloc::{AllocError, Global};
@@ -33,10 +33,34 @@ fn plain_offer(lane: usize, delivery: &Delivery) -> PlainOffer {
     }
 }
 
+/// How many replies a row has at most.
+pub(crate) const MAX_ROW: usize = 8;
+
+/// The replies of a row, of one flow after the other.
+fn alike(first: Packet, count: usize) -> ArrayVec<Reply, MAX_ROW> {
+    let mut replies = ArrayVec::new();
+    for index in 0..count.min(MAX_ROW) {
+        let packet = first.of_flow(first.flow.wrapping_add(index as u8));
+        let event = PackedEvent::of(&packet.event());
+        let _ = replies.try_push(Reply { event });
+    }
+    replies
+}
+
+/// The lane, so many times.
+fn repeated(lane: usize, count: usize) -> ArrayVec<usize, 32> {
+    let mut lanes = ArrayVec::new();
+    for _ in 0..count {
+        let _ = lanes.try_push(lane);
+    }
+    lanes
+}
+
 /// By which calls a core takes replies and gives events.
 #[derive(Clone, Copy)]
 pub(crate) enum Calls {
-    /// By those of a device: a NEW and an answer are taken by a call of their own each, and events are given in runs.
+    /// By those of a device: a NEW and an answer are taken by a call of their own each, replies that are alike in rows, and events are given
+    /// in runs, or dealt among several lanes.
     OfDevice,
     /// By those of one reply and of one event.
     Single,
@@ -51,9 +75,9 @@ pub(crate) struct Run {
     skips: Skips,
     /// Whose turn it is, where the last run said so and nothing else has happened since.
     turn: Option<Turn>,
-    /// The lane of the last run, and what it was given.
-    lane: usize,
+    /// What was given last, and the lane of each.
     run: ArrayVec<Delivery, 32>,
+    to: ArrayVec<usize, 32>,
     pub(crate) log: Vec<Step>,
 }
 
@@ -79,8 +103,8 @@ impl Run {
                 core,
                 skips: Skips::none(),
                 turn: None,
-                lane: 0,
                 run: ArrayVec::new(),
+                to: ArrayVec::new(),
                 log: Vec::new(alloc),
             }),
             Err((memory, _)) => Err(RunFault::from(memory)),
@@ -91,8 +115,13 @@ impl Run {
     pub(crate) fn make(&mut self, step: Move) -> Result<Made, RunFault> {
         match step {
             Move::Reply { lane, packet } => self.take(lane, packet.event()),
+            Move::Replies {
+                lane,
+                packet,
+                count,
+            } => self.take_row(lane, packet, count),
             Move::Give { most } => match self.calls {
-                Calls::OfDevice => self.give_run(most),
+                Calls::OfDevice => self.give_more(most),
                 Calls::Single => self.give(),
             },
             Move::Bounce => self.bounce(),
@@ -134,7 +163,58 @@ impl Run {
         Ok(Made::Took(Some(plain_took(took))))
     }
 
-    /// Gives what is proposed, and in a run what is chosen after it: so many events at most.
+    /// Takes these replies from the first on, as many as go in a row.
+    fn take_row(&mut self, lane: usize, packet: Packet, count: usize) -> Result<Made, RunFault> {
+        if lane >= self.core.shape().lanes() {
+            return Ok(Made::TookRow(0));
+        }
+        self.turn = None;
+        let replies = alike(packet, count);
+        let row = replies.as_slice();
+        // An answer has two steps at most.
+        self.log.reserve(2 * MAX_ROW)?;
+        let taken = match packet.op {
+            Op::New => self.core.take_news(lane, row, &mut self.log),
+            Op::Forward => self.core.take_forwards(lane, row, &mut self.log),
+            Op::Release => self.core.take_releases(lane, row, &mut self.log),
+            Op::ForwardMore => 0,
+        };
+        Ok(Made::TookRow(taken))
+    }
+
+    /// Gives what is proposed, and what is chosen after it: so many events at most. Where several lanes are open they are dealt among
+    /// these, and else given in a run.
+    fn give_more(&mut self, most: usize) -> Result<Made, RunFault> {
+        if self.deal(most)? {
+            return Ok(self.given(0));
+        }
+        self.give_run(most)
+    }
+
+    /// Deals what is proposed and what is chosen after it among the open lanes, where it is worth that: whether it did.
+    fn deal(&mut self, most: usize) -> Result<bool, RunFault> {
+        self.log.reserve(self.core.shape().sweep() as usize)?;
+        let Some(offer) = self.core.propose_next(None, &self.skips) else {
+            return Ok(false);
+        };
+        let Some(among) = self.core.deals(&offer, &self.skips) else {
+            return Ok(false);
+        };
+        self.turn = None;
+        self.to.clear();
+        self.core.deal_row(
+            &offer,
+            among,
+            most,
+            &mut self.skips,
+            &mut self.run,
+            &mut self.to,
+            &mut self.log,
+        );
+        Ok(!self.run.is_empty())
+    }
+
+    /// Gives what is proposed, and in a run what is chosen after it.
     fn give_run(&mut self, most: usize) -> Result<Made, RunFault> {
         self.log.reserve(self.core.shape().sweep() as usize)?;
         let turn = self.turn;
@@ -142,22 +222,31 @@ impl Run {
         let Some(offer) = self.core.propose_next(turn, &self.skips) else {
             return Ok(Made::Gave(None));
         };
-        self.lane = offer.lane;
+        let lane = offer.lane;
         self.turn = self
             .core
             .give_run(offer, most, &mut self.skips, &mut self.run, &mut self.log);
+        self.to = repeated(lane, self.run.len());
         Ok(self.given(0))
     }
 
-    /// What the last run gave at this place, counted from 0.
+    /// What was given last at this place, counted from 0.
     pub(crate) fn given(&self, place: usize) -> Made {
-        match self.run.as_slice().get(place) {
-            Some(delivery) => Made::Gave(Some(plain_offer(self.lane, delivery))),
-            None => Made::Gave(None),
+        let lane = self.to.as_slice().get(place);
+        let delivery = self.run.as_slice().get(place);
+        match (lane, delivery) {
+            (Some(lane), Some(delivery)) => Made::Gave(Some(plain_offer(*lane, delivery))),
+            _ => Made::Gave(None),
         }
     }
 
-    /// How many events the last run gave.
+    /// Whether what was given last went to several lanes.
+    pub(crate) fn has_dealt(&self) -> bool {
+        let lanes = self.to.as_slice();
+        lanes.iter().any(|lane| lanes.first() != Some(lane))
+    }
+
+    /// How many events were given last.
     pub(crate) fn run_len(&self) -> usize {
         self.run.len()
     }

@@ -1,11 +1,17 @@
 -- A run stays ready.
-use Rattle.std.proofs.Common.{◌≡◌, ℕ, ◌<◌, ◌≤◌, List, ◌∷◌, All, length, ap, sym, subst, arith}
+use Rattle.std.proofs.Common.{◌≡◌, ℕ, ◌<◌, ◌≤◌, List, [], ◌∷◌, ◌++◌, length, ap, refl, sym, subst, append-nil, append_assoc, arith}
 use Rattle.std.proofs.lemmas.List.Elements.{All-head, All-tail}
 use Rattle.evt_types.specs.Plan.{Plan, lanes_of}
+use Rattle.evt_types.specs.declared.event.Delivery.{Delivery}
 use Rattle.evt_types.specs.declared.event.Event.{Event}
 use Rattle.evt_types.specs.declared.step.Step.{Step}
+use Rattle.sched_core.proofs.Offers.{choice_is_offer}
+use Rattle.sched_core.specs.Offered.{numbered_in}
+use Rattle.sched_core.specs.Runs.{AreDeals, gift_of, gifts_to, given_once}
 use Rattle.transcripts.proofs.Fewness.{kept_fit, steps_fit}
-use Rattle.transcripts.specs.Standing.{View, Stands, steps_of}
+use Rattle.transcripts.proofs.WholeStands.{stands_give}
+use Rattle.transcripts.specs.Choice.{Passed}
+use Rattle.transcripts.specs.Standing.{View, Stands, after, steps_of}
 use Rattle.transcripts.specs.Sweep.{sweep_room}
 use Rattle.core_bench.specs.Run.{IsReady, AreLanes}
 
@@ -35,3 +41,20 @@ module _ (v : View) (held : List ℕ) (capacity : ℕ) (ready : IsReady v held c
         gifts = omega (arith, ready.gifts, room, ap (λ (p : Plan). p.sweep) shape);
         stands = stands;
       }
+
+-- once events are dealt the core stands at a transcript still
+pub deals_stand : (v : View) (s : Passed) (ds : List Delivery) (to : List ℕ) (w : View) (t : Passed) (T : List Step) → AreDeals v s ds to w t → Stands T v → Stands (T ++ gifts_to ds to) w
+deals_stand v s [] [] w t T h stands = subst (Stands (T ++ [])) (sym h.0) (subst (λ U. Stands U v) (sym (append-nil T)) stands)
+deals_stand v s [] (l ∷ to) w t T h stands = absurd h
+deals_stand v s (d ∷ ds) [] w t T h stands = absurd h
+deals_stand v s (d ∷ ds) (l ∷ to) w t T h stands =
+    subst (λ U. Stands U w) (append_assoc T (gift_of l d ∷ []) (gifts_to ds to))
+    (deals_stand (after v (gift_of l d ∷ [])) (given_once s d.queue) ds to w t (T ++ gift_of l d ∷ []) h.1
+    (stands_give v T l d.queue (numbered_in d) stands (choice_is_offer v s l d.queue (numbered_in d) h.0)))
+
+-- each event has its step
+pub gifts_count : (v : View) (s : Passed) (ds : List Delivery) (to : List ℕ) (w : View) (t : Passed) → AreDeals v s ds to w t → length (gifts_to ds to) ≡ length ds
+gifts_count v s [] [] w t h = refl
+gifts_count v s [] (l ∷ to) w t h = absurd h
+gifts_count v s (d ∷ ds) [] w t h = absurd h
+gifts_count v s (d ∷ ds) (l ∷ to) w t h = omega (arith, gifts_count (after v (gift_of l d ∷ [])) (given_once s d.queue) ds to w t h.1)

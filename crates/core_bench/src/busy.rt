@@ -15,7 +15,7 @@ impl Run {
     pub fn fill_busy(&mut self) -> Result<(), BenchFault> {
         for _ in 0..MAX_DEPTH {
             self.bring(new_event(BUSY_FLOW, 0))?;
-            if self.give(1, &mut Skips::none())? != BUSY {
+            if self.give(1, &mut Skips::none())? != Some(BUSY) {
                 return Err(BenchFault::Stuck);
             }
         }

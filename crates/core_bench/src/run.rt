@@ -1,6 +1,6 @@
 //! A core, the log of the steps of its last call, and the lanes of what it gave.
 
-ghost use Rattle.std.specs.Prelude.{◌≤◌, ◌<◌, IfOk};
+ghost use Rattle.std.specs.Prelude.{◌≤◌, ◌<◌};
 ghost use Rattle.evt_types.specs.Plan.{lanes_of};
 
 use crate::asked::{Asked, MAX_HELD};
@@ -18,8 +18,9 @@ use std::marker::Model;
 pub struct Run {
     pub core: Core,
     log: Vec<Step>,
-    /// What was given last.
+    /// What was given last, and where that was dealt the lane of each.
     run: ArrayVec<Delivery, 32>,
+    to: ArrayVec<usize, 32>,
     /// The lane of each event that the workers hold, in the order in which they were given.
     lanes: VecDeque<usize>,
     /// The last one of the flows of the workers' events, which are counted from 0.
@@ -79,6 +80,7 @@ impl Run {
                     core,
                     log,
                     run: ArrayVec::new(),
+                    to: ArrayVec::new(),
                     lanes,
                     last_flow: asked.flows - 1,
                     next_flow: 0,
@@ -133,20 +135,32 @@ impl Run {
         Ok(())
     }
 
-    /// What the core proposes is given, and what it chooses after it in a run, so many events at most: the lane that they go to. Ports
-    /// serve the device, so that a sweep doesn't ask whose turn it is.
-    pub fn give(&mut self, most: usize, skips: &mut Skips) -> Result<usize, BenchFault>
-        ensures { IfOk result (λ l. l < lanes_of self.new.shape) }
-    {
+    /// What the core proposes is given, and what it chooses after it, so many events at most: as in a sweep they are dealt among the open
+    /// lanes where it is worth that, and else go in a run to one lane, which is the answer. Ports serve the device, so that a sweep doesn't
+    /// ask whose turn it is.
+    pub fn give(&mut self, most: usize, skips: &mut Skips) -> Result<Option<usize>, BenchFault> {
         let Some(offer) = self.core.propose_next(None, skips) else {
             return Err(BenchFault::Stuck);
         };
         self.log.clear();
-        let lane = offer.lane;
-        let _ = self
-            .core
-            .give_run(offer, most, skips, &mut self.run, &mut self.log);
-        Ok(lane)
+        let Some(among) = self.core.deals(&offer, skips) else {
+            let lane = offer.lane;
+            let _ = self
+                .core
+                .give_run(offer, most, skips, &mut self.run, &mut self.log);
+            return Ok(Some(lane));
+        };
+        self.to.clear();
+        self.core.deal_row(
+            &offer,
+            among,
+            most,
+            skips,
+            &mut self.run,
+            &mut self.to,
+            &mut self.log,
+        );
+        Ok(None)
     }
 
     /// The worker's lane holds one event more.
@@ -159,14 +173,15 @@ impl Run {
         }
     }
 
-    /// The worker's lane holds what was given last: how many events that were.
-    fn note(&mut self, lane: usize) -> Result<usize, BenchFault> {
+    /// The workers' lanes hold what was given last, in a run to this one or dealt to several: how many events that were.
+    fn note(&mut self, run: Option<usize>) -> Result<usize, BenchFault> {
         let count = self.run.len();
-        for _ in 0..count {
-            if lane >= self.core.shape().lanes() {
-                return Err(BenchFault::Stuck);
+        for place in 0..count {
+            let dealt = self.to.as_slice().get(place).copied();
+            match run.or(dealt) {
+                Some(lane) if lane < self.core.shape().lanes() => self.hold(lane)?,
+                _ => return Err(BenchFault::Stuck),
             }
-            self.hold(lane)?;
         }
         Ok(count)
     }

@@ -1,9 +1,9 @@
 #!/usr/bin/env python3
-"""Measures what the scheduling core's take, give and release of an event cost, by the calls that a sweep makes, in bursts of 1 and of
-32, which are given in runs: beside no blocked events and 4,000, beside no waiting events and 2,000 while every lane is full when a round has given its burst, with 1 queue and with 16, of which 15
+"""Measures what the scheduling core's take, give and release of an event cost, in bursts of 1 and of 32, which are given by the calls
+that a sweep makes, in runs or dealt: beside no blocked events and 4,000, beside no waiting events and 2,000 while every lane is full when a round has given its burst, with 1 queue and with 16, of which 15
 are empty, with events waiting in 1 of 3 queues and in all 3, and with 2 worker ports and 15. It fails where the larger number costs more
 than 1.3 times as much as the smaller one, of the busy queues more than 1.2 times, of the worker ports more than 1.5 times, and of blocked
-events in bursts of 32 more than 1.7 times as much: while events are set aside each one is chosen by itself, and given in a run of one.
+events in bursts of 32 more than 1.7 times as much: while events are set aside each one is looked for by itself.
 
     scaling.py [PROGRAM]
 

@@ -21,7 +21,7 @@ use step_log::StepLog;
 
 impl Core {
     /// The lanes that are open to the offer's queue, where its events are worth dealing: several wait, ports serve it, and several lanes are
-    /// open, or one of which several places are free while events of the level are set aside.
+    /// open; or, while events of the level are set aside, some of the queue were given in the sweep, and several may be given yet.
     #[inline(always)]
     pub fn deals(&self, offer: &Offer, skips: &Skips) -> Option<SmallSet>
         requires choice { IsChoice self.now skips.now offer.now.lane offer.now.delivery.queue (numbered_in offer.now.delivery) }
@@ -31,15 +31,16 @@ impl Core {
         if self.queues.count(queue) < 2 || self.has_flow_lanes(queue) {
             return None;
         }
-        let among = self.open_lanes(queue, skips);
-        let mut others = among;
-        if others.pop().is_none() {
+        let is_aside = !self.queues.parked_slots(queue, offer.level).is_empty();
+        // Where most of what waits may not go, the first event of a sweep is often its only one, which costs less by itself.
+        if is_aside && !skips.has_given(queue) {
             return None;
         }
-        // A lane that is open alone is given a row of what isn't set aside, and one event by itself.
-        if others.is_empty()
-            && (self.lanes.room(offer.lane) < 2
-                || self.queues.parked_slots(queue, offer.level).is_empty())
+        let among = self.open_lanes(queue, skips);
+        let mut others = among;
+        // A lane that is open alone is given a run of what isn't set aside, and one event by itself.
+        if others.pop().is_none()
+            || others.is_empty() && !(is_aside && self.lanes.room(offer.lane) > 1)
         {
             return None;
         }

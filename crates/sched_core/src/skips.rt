@@ -1,6 +1,6 @@
 //! What a sweep passes over.
 
-ghost use Rattle.std.specs.Prelude.{◌≡◌, ℕ, ◌+◌, ◌-◌, ◌<◌, ◌≤◌, ◌↔◌, true, slice_set, slice_index, nat_lt, length};
+ghost use Rattle.std.specs.Prelude.{◌≡◌, ℕ, ◌+◌, ◌-◌, ◌<◌, ◌≤◌, ◌↔◌, true, slice_set, slice_index, nat_lt, length, IsTrue};
 ghost use Rattle.transcripts.specs.Choice.{has_bounced};
 ghost use Rattle.small_set.specs.SmallSets.{Has};
 ghost use Rattle.sched_core.specs.Runs.{given_times};
@@ -88,6 +88,14 @@ impl Skips {
         ensures { result ≡ has_bounced self.now lane }
     {
         lane < MAX_LANES && self.bounced[lane / MAX_MEMBERS].has(lane % MAX_MEMBERS)
+    }
+
+    /// Whether an event of the queue was given.
+    pub(crate) fn has_given(&self, queue: usize) -> bool
+        requires { queue < MAX_QUEUES }
+        ensures { IsTrue result ↔ (0 < slice_index self.now.given queue) }
+    {
+        self.given[queue] > 0
     }
 
     /// Whether fewer events of the queue were given than the sweep quantum.

@@ -8,7 +8,7 @@ use crate::case::{Case, SECOND};
 use crate::config::bench_shape;
 use crate::fault::BenchFault;
 use event_device::{Deliveries, Device, Port, StepLog};
-use evt_types::{Delivery, PackedEvent};
+use evt_types::{Delivery, PackedEvent, Reply};
 use std::alloc::Global;
 
 /// How many events went by.
@@ -29,9 +29,9 @@ pub struct Bench<L: StepLog> {
     source: Port,
     worker: Port,
     /// The events of a burst.
-    events: Vec<PackedEvent>,
+    events: Vec<Reply>,
     /// A portion of releases.
-    releases: Vec<PackedEvent>,
+    releases: Vec<Reply>,
     /// What the worker dequeued last.
     deliveries: Deliveries,
     case: Case,
@@ -50,10 +50,12 @@ fn add(count: u64, came: usize, wanted: u64) -> Result<u64, BenchFault>
 }
 
 /// Appends what each delivery is forwarded to the second queue as.
-fn push_forwards(deliveries: &[Delivery], events: &mut Vec<PackedEvent>) -> Result<(), BenchFault> {
+fn push_forwards(deliveries: &[Delivery], events: &mut Vec<Reply>) -> Result<(), BenchFault> {
     for delivery in deliveries {
         let event = delivery.packed();
-        events.push(event.forwarded(SECOND, event.payload()))?;
+        events.push(Reply {
+            event: event.forwarded(SECOND, event.payload()),
+        })?;
     }
     Ok(())
 }
@@ -66,7 +68,9 @@ impl<L: StepLog> Bench<L> {
     {
         let burst = Burst::new(burst, case.room())?;
         let events = Vec::with_capacity(alloc, burst.length as usize)?;
-        let releases = vec![in alloc; PackedEvent::release(); burst.portion as usize]?;
+        let releases = vec![in alloc; Reply {
+            event: PackedEvent::release()
+        }; burst.portion as usize]?;
         let shape = bench_shape(alloc, case)?;
         let Ok(mut device) = Device::with_log(alloc, log, shape) else {
             return Err(BenchFault::Device);
@@ -98,8 +102,9 @@ impl<L: StepLog> Bench<L> {
         let first = self.counts.entered;
         self.events.clear();
         for place in 0..self.burst.length {
-            self.events
-                .push(self.case.event(first.wrapping_add(place)))?;
+            self.events.push(Reply {
+                event: self.case.event(first.wrapping_add(place)),
+            })?;
         }
         let (taken, _) = self.source.enqueue_packed(&self.events);
         self.counts.entered = add(first, taken, self.burst.length)?;

@@ -2,9 +2,10 @@
 
 ghost use Rattle.std.specs.Prelude.{◌≡◌, ◌++◌, ◌≤◌, length, map, drop, take};
 ghost use Rattle.std.specs.List.{AllZip};
+ghost use Rattle.evt_types.specs.declared.event.Reply.{Reply as ReplyValue};
 ghost use Rattle.event_handles.specs.Events.{IsRead, c_event, kind_in, written, written_in};
 
-use evt_types::{Delivery, Event, Kind, MAX_QUEUES, PackedEvent};
+use evt_types::{Delivery, Event, Kind, MAX_QUEUES, PackedEvent, Reply};
 
 /// An event of C, with the layout of `struct rte_event`.
 #[repr(C)]
@@ -72,13 +73,13 @@ pub(crate) fn kind_at(kinds: &[Kind; MAX_QUEUES], queue: usize) -> Kind
     }
 }
 
-/// Reads the events into the front of the array.
-pub(crate) fn read_all(given: &[CEvent], events: &mut [PackedEvent])
-    requires { length given.now ≤ length events.old }
-    ensures { AllZip IsRead given.now (take (length given.now) events.new) }
+/// Reads the events into the front of the array, each in the reply that carries it.
+pub(crate) fn read_all(given: &[CEvent], replies: &mut [Reply])
+    requires { length given.now ≤ length replies.old }
+    ensures { AllZip IsRead given.now (map (λ (r : ReplyValue). r.event) (take (length given.now) replies.new)) }
 {
     for (index, event) in given.iter().enumerate() {
-        events[index] = read(event);
+        replies[index] = Reply { event: read(event) };
     }
 }
 

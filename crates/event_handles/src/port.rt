@@ -7,7 +7,7 @@ use crate::errno::{EINVAL, ENOBUFS, ENODEV};
 use crate::event::{CEvent, read_all, write_all};
 use crate::refusal::number_of_end;
 use event_ports::{Deliveries, Port, PortCounts};
-use evt_types::{Kind, MAX_QUEUES, PackedEvent};
+use evt_types::{Kind, MAX_QUEUES, Reply};
 
 /// How many events one call enqueues at most.
 const BURST: usize = 64;
@@ -21,7 +21,7 @@ const COUNTS: usize = 11;
 pub struct Seat {
     pub(crate) port: Port,
     pub(crate) kinds: [Kind; MAX_QUEUES],
-    events: [PackedEvent; BURST],
+    replies: [Reply; BURST],
     deliveries: Deliveries,
     why: i64,
 }
@@ -64,7 +64,7 @@ impl Seat {
         Seat {
             port,
             kinds,
-            events: [PackedEvent::default(); BURST],
+            replies: [Reply::default(); BURST],
             deliveries: Deliveries::new(),
             why: 0,
         }
@@ -74,8 +74,8 @@ impl Seat {
         ensures { Enqueues self.old self.new events.now result }
     {
         let count = events.len().min(BURST);
-        read_all(&events[..count], &mut self.events);
-        let (taken, end) = self.port.enqueue_packed(&self.events[..count]);
+        read_all(&events[..count], &mut self.replies);
+        let (taken, end) = self.port.enqueue_packed(&self.replies[..count]);
         self.why = number_of_end(&end);
         taken as i64
     }

@@ -1,16 +1,15 @@
 -- What several calls on flow lanes, one after the other, make of what a port has of them.
-use Rattle.std.proofs.Common.{◌≡◌, ◌≢◌, ℕ, ◌+◌, ◌<◌, ◌||◌, true, false, None, List, [], ◌∷◌, ◌++◌, drop, Result, Ok, Err, MatchResult, refl, sym, ap, ◌∙◌, subst, arith, append-nil, count_by}
+use Rattle.std.proofs.Common.{◌≡◌, ◌≢◌, ℕ, ◌+◌, ◌<◌, ◌||◌, true, false, None, List, [], ◌++◌, drop, refl, sym, ap, ◌∙◌, subst, arith, append-nil, count_by}
 use Rattle.std.specs.Option.{is_some}
 use mathlib.Core.Logic.{dite}
 use native.Mathlib.Decide.{ℕ_discrete}
-use Rattle.evt_types.specs.Additions.{extras_of, more_after}
+use Rattle.evt_types.specs.Additions.{extras_of}
 use Rattle.evt_types.specs.declared.event.Delivery.{Delivery}
 use Rattle.evt_types.specs.declared.event.Op.{Op}
 use Rattle.evt_types.specs.declared.event.Op.TheVariants as ops
 use Rattle.evt_types.specs.declared.event.Reply.{Reply}
 use Rattle.evt_types.specs.Operation.{is_answer_op, is_more_op, is_more_reply, is_new_op, is_new_reply, needs_held}
 use Rattle.lists.specs.Counts.{count}
-use Rattle.lane_rings.specs.Ends.{answers_among}
 use Rattle.event_ports.specs.Holds.{AddedAll, AreIdle, Hands, stint_in, received_on, answered_on, extras_on, held_on, received_past, answered_past, left_past, received_now, answered_now, held_now, Same, SameBut, Gets, Brings, Says, Kept, Ends, HaveNoNew, GaveBack, NoneSurrendered}
 use Rattle.event_ports.proofs.Submitted.{count_more}
 use Rattle.event_ports.proofs.Refusals.{no_answer}
@@ -50,16 +49,6 @@ but_after h k m lane a b = record { received = λ j ne. b.received j ne ∙ a.re
 
 but_before : (h k m : Hands) (lane : ℕ) → SameBut lane h k → Same k m → SameBut lane h m
 but_before h k m lane a b = record { received = λ j ne. b.received j ∙ a.received j ne; answered_is = λ j ne. b.answered_is j ∙ a.answered_is j ne; held = λ j ne. b.held j ∙ a.held j ne; extras = λ j ne. b.extras j ∙ a.extras j ne }
-
-pub says_after : (h k m : Hands) (lane : ℕ) (r : Reply) → Same h k → Says lane r k m → Says lane r h m
-says_after h k m lane r same says = record {
-  others = but_after h k m lane same says.others;
-  received = says.received ∙ same.received lane;
-  answered_is = says.answered_is ∙ ap (λ xs. xs ++ r ∷ []) (same.answered_is lane);
-  held = says.held ∙ ap (drop (answers_among (r ∷ []))) (same.held lane);
-  extras = says.extras ∙ ap (λ n. more_after n r) (same.extras lane);
-  given_back = λ j. says.given_back j ∙ same.given_back j;
-}
 
 pub says_before : (h k m : Hands) (lane : ℕ) (r : Reply) → Says lane r h k → Same k m → Says lane r h m
 says_before h k m lane r says same = record {
@@ -109,12 +98,6 @@ ends_kept h k kept none = record {
   left = λ j. sym (ap (λ o. left_past j k.view.finished ++ held_now o) (none j) ∙ append-nil (left_past j k.view.finished)) ∙ kept.left j;
   free = λ j is. (kept.free j is).1;
 }
-
--- an answer after a flush
-pub answered_after : {E : Type 0} (h k m : Hands) (lane : ℕ) (r : Reply) (result : Result (Unit {0}) E) → Same h k
-    → MatchResult result (λ _. Says lane r k m) (λ _. Same k m) → MatchResult result (λ _. Says lane r h m) (λ _. Same h m)
-answered_after h k m lane r (Ok _) same says = says_after h k m lane r same says
-answered_after h k m lane r (Err _) same says = same_more h k m same says
 
 pub gets_after : (h k m : Hands) (lane : ℕ) (ds : List Delivery) → Same h k → Gets lane ds k m → Gets lane ds h m
 gets_after h k m lane ds same gets = record {

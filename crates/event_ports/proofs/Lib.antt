@@ -25,10 +25,8 @@ pub mod Stops
 pub mod AtStop
 pub mod Parted
 pub mod Joining
-pub mod Flushes
 pub mod IdleLanes
 pub mod Noting
-pub mod Shown
 pub mod Rings
 pub mod LastStints
 pub mod Chains

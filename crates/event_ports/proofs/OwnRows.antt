@@ -9,9 +9,9 @@ use Rattle.evt_types.specs.Event.{pair_of}
 use Rattle.lists.specs.Counts.{count}
 use Rattle.evt_types.specs.Operation.{is_answer, is_answer_op, is_release_op}
 use Rattle.evt_types.specs.declared.event.Delivery.{Delivery}
-use Rattle.evt_types.specs.declared.event.Event.{Event}
 use Rattle.evt_types.specs.declared.event.Op.{Op}
 use Rattle.evt_types.specs.declared.event.Op.TheVariants as ops
+use Rattle.evt_types.specs.declared.event.Reply.{Reply}
 use Rattle.credit_pool.specs.declared.account.Account.{Account}
 use Rattle.credit_pool.specs.Accounts.{Stays}
 use Rattle.credit_pool.specs.Pockets.{IsPocket}
@@ -28,8 +28,8 @@ use Rattle.event_ports.specs.Flows.{flow_site, hands_of}
 use Rattle.event_ports.specs.Holds.{answered_on, received_on}
 use Rattle.event_ports.specs.HeldRings.{Held, holds}
 use Rattle.event_ports.specs.Handed.{AnswersRow, CountsNone, CountsOne, LanesSite, hand_of, mores_of, news_of, releases_of}
-use Rattle.event_ports.specs.Lanes.{SubmitsTo, first_lane, held_in, held_of, lane_for, open_on, pair_in, reply_of, same_lane}
-use Rattle.event_ports.specs.Desks.{DeskSite, own_site, account_of, hand, pocket_of, Enqueues, EnqueuesAll, Pays}
+use Rattle.event_ports.specs.Lanes.{SubmitsTo, first_lane, held_in, held_of, lane_for, open_on, pair_in, same_lane}
+use Rattle.event_ports.specs.Desks.{DeskSite, own_site, account_of, events_of, hand, pocket_of, Enqueues, EnqueuesAll, Pays}
 use Rattle.event_ports.specs.Queues.{NamesQueue}
 use Rattle.event_ports.proofs.Adding.{counts_forward, counts_own, counts_same, paid_release, paid_same}
 use Rattle.event_ports.proofs.HeldIn.{held_dropped}
@@ -98,11 +98,11 @@ some_there (x ∷ xs) some = omega arith
 
 -- ---- the lanes after one answer
 
-lanes_step : (a : Lanes) (e : Event) → is_answer (reply_of e) ≡ true → first_lane (hand_of a).holding ≡ Some Own → 0 < room_left a.own
-    → (b : Lanes) × AnswersRow (e ∷ []) a b × (room_left b.own + 1 ≡ room_left a.own)
-lanes_step a e ends first room =
+lanes_step : (a : Lanes) (reply : Reply) → is_answer reply ≡ true → first_lane (hand_of a).holding ≡ Some Own → 0 < room_left a.own
+    → (b : Lanes) × AnswersRow (reply ∷ []) a b × (room_left b.own + 1 ≡ room_left a.own)
+lanes_step a reply ends first room =
     let before : Lane → List Delivery = open_on a.own (hands_of a.flows) in
-    let s = answer_step a.own e ends (some_there (unanswered a.own) (first_open (hand_of a).holding Own before first a.ordered)) room in
+    let s = answer_step a.own reply ends (some_there (unanswered a.own) (first_open (hand_of a).holding Own before first a.ordered)) room in
     let after : Lane → List Delivery = open_on s.0 (hands_of a.flows) in
     let others : (l : Lane) → l ≢ Own → after l ≡ before l = each_lane (λ l. l ≢ Own → after l ≡ before l) (λ ne. absurd (ne refl)) (λ j ne. refl) in
     let rest : Held = holds (drop 1 a.order.items) a.order.capacity a.order.notes in
@@ -126,99 +126,99 @@ lanes_step a e ends first room =
 -- ---- the desk after one answer
 
 -- a FORWARD that names one of so many queues, or a RELEASE
-abbrev pub MayAnswer : ℕ → Event → Type 0
-MayAnswer queues e = ((e.op ≡ ops.Forward) × (e.queue < queues)) ⊎ (e.op ≡ ops.Release)
+abbrev pub MayAnswer : ℕ → Reply → Type 0
+MayAnswer queues reply = ((reply.event.op ≡ ops.Forward) × (reply.event.queue < queues)) ⊎ (reply.event.op ≡ ops.Release)
 
 -- how many credits these bring: one for each RELEASE
-abbrev pub brought : List Event → ℕ
+abbrev pub brought : List Reply → ℕ
 brought [] = 0
-brought (e ∷ es) = count (is_release_op e.op) + brought es
+brought (reply ∷ replies) = count (is_release_op reply.event.op) + brought replies
 
 -- these answers went to the own lane, and each RELEASE brought a credit
-pub record AnswersDesk (es : List Event) (p q : Desk) : Type 0 where
+pub record AnswersDesk (replies : List Reply) (p q : Desk) : Type 0 where
   pub site : own_site q ≡ own_site p
   pub account : account_of q ≡ account_of p
-  pub pocket : pocket_of q ≡ pocket_of p + brought es
-  pub lanes : AnswersRow es p.lanes q.lanes
+  pub pocket : pocket_of q ≡ pocket_of p + brought replies
+  pub lanes : AnswersRow replies p.lanes q.lanes
 
-ends_op : (queues : ℕ) (e : Event) → MayAnswer queues e → is_answer (reply_of e) ≡ true
-ends_op queues e (inl forward) = ap is_answer_op forward.0
-ends_op queues e (inr release) = ap is_answer_op release
+ends_op : (queues : ℕ) (reply : Reply) → MayAnswer queues reply → is_answer reply ≡ true
+ends_op queues reply (inl forward) = ap is_answer_op forward.0
+ends_op queues reply (inr release) = ap is_answer_op release
 
 -- it goes to the lane of the oldest
-to_first : (queues : ℕ) (e : Event) (xs : List Holding) → MayAnswer queues e → lane_for e.op xs ≡ first_lane xs
-to_first queues e xs (inl forward) = ap (λ (o : Op). lane_for o xs) forward.0
-to_first queues e xs (inr release) = ap (λ (o : Op). lane_for o xs) release
+to_first : (queues : ℕ) (reply : Reply) (xs : List Holding) → MayAnswer queues reply → lane_for reply.event.op xs ≡ first_lane xs
+to_first queues reply xs (inl forward) = ap (λ (o : Op). lane_for o xs) forward.0
+to_first queues reply xs (inr release) = ap (λ (o : Op). lane_for o xs) release
 
-not_new : (queues : ℕ) (e : Event) → MayAnswer queues e → e.op ≡ ops.New → ⊥
-not_new queues e (inl forward) new = forward_alone e.op ops.New (λ is. absurd (cc)) forward.0 new
-not_new queues e (inr release) new = not_release e.op new release
+not_new : (queues : ℕ) (reply : Reply) → MayAnswer queues reply → reply.event.op ≡ ops.New → ⊥
+not_new queues reply (inl forward) new = forward_alone reply.event.op ops.New (λ is. absurd (cc)) forward.0 new
+not_new queues reply (inr release) new = not_release reply.event.op new release
 
-names : (queues : ℕ) (e : Event) → MayAnswer queues e → NamesQueue queues e
-names queues e (inl forward) other = forward.1
-names queues e (inr release) other = absurd (other release)
+names : (queues : ℕ) (reply : Reply) → MayAnswer queues reply → NamesQueue queues reply.event
+names queues reply (inl forward) other = forward.1
+names queues reply (inr release) other = absurd (other release)
 
-forward_brings : (e : Event) → e.op ≡ ops.Forward → brought (e ∷ []) ≡ 0
-forward_brings e forward = omega (arith, ap (λ (o : Op). count (is_release_op o)) forward)
+forward_brings : (reply : Reply) → reply.event.op ≡ ops.Forward → brought (reply ∷ []) ≡ 0
+forward_brings reply forward = omega (arith, ap (λ (o : Op). count (is_release_op o)) forward)
 
-release_brings : (e : Event) → e.op ≡ ops.Release → brought (e ∷ []) ≡ 1
-release_brings e release = omega (arith, ap (λ (o : Op). count (is_release_op o)) release)
+release_brings : (reply : Reply) → reply.event.op ≡ ops.Release → brought (reply ∷ []) ≡ 1
+release_brings reply release = omega (arith, ap (λ (o : Op). count (is_release_op o)) release)
 
 -- a RELEASE comes before two quanta are in the pocket, and the pocket's number has room for it
 pub record HasFew (n : ℕ) (p : Desk) : Type 0 where
   pub few : 0 < n → pocket_of p + n < 2 * (own_site p).quantum
   pub fits : 0 < n → pocket_of p + n < 2 ^ 64
 
-pays_one : (e : Event) (p q : Desk) → MayAnswer (own_site p).queues e → HasFew (brought (e ∷ [])) p → AnswersDesk (e ∷ []) p q → Pays e.op p q
-pays_one e p q (inl forward) few r =
-    subst (λ (o : Op). Pays o p q) (sym forward.0) ((omega (arith, r.pocket, forward_brings e forward.0), (ap (λ (w : Account). w.drawn) r.account, ap (λ (w : Account). w.returned) r.account)), r.account)
-pays_one e p q (inr release) few r =
-    let one = release_brings e release in
+pays_one : (reply : Reply) (p q : Desk) → MayAnswer (own_site p).queues reply → HasFew (brought (reply ∷ [])) p → AnswersDesk (reply ∷ []) p q → Pays reply.event.op p q
+pays_one reply p q (inl forward) few r =
+    subst (λ (o : Op). Pays o p q) (sym forward.0) ((omega (arith, r.pocket, forward_brings reply forward.0), (ap (λ (w : Account). w.drawn) r.account, ap (λ (w : Account). w.returned) r.account)), r.account)
+pays_one reply p q (inr release) few r =
+    let one = release_brings reply release in
     let fits : pocket_of p + 1 < 2 ^ 64 = omega (arith, few.fits (omega (arith, one)), one) in
     let small : pocket_of p + 1 < 2 * (own_site p).quantum = omega (arith, few.few (omega (arith, one)), one) in
     subst (λ (o : Op). Pays o p q) (sym release) (record { few = λ _. (omega (arith, r.pocket, one, fits), r.account); many = λ many. absurd (omega (arith, many, small, fits)) })
 
 -- what one of them says
-one_answered : (e : Event) (p q : Desk) → MayAnswer (own_site p).queues e → first_lane (hand p).holding ≡ Some Own → HasFew (brought (e ∷ [])) p → AnswersDesk (e ∷ []) p q → Enqueues e p q
-one_answered e p q may first few r = record {
+one_answered : (reply : Reply) (p q : Desk) → MayAnswer (own_site p).queues reply → first_lane (hand p).holding ≡ Some Own → HasFew (brought (reply ∷ [])) p → AnswersDesk (reply ∷ []) p q → Enqueues reply.event p q
+one_answered reply p q may first few r = record {
   site = r.site;
   credit = subst (λ (w : Account). Stays (account_of p) w) (sym r.account) (record { limit = refl; parts = refl; set_shut = refl; saw_shut = λ saw. saw });
   submitted =
-      subst (λ o. SubmitsTo o (reply_of e) (hand p) (hand q)) (sym (to_first (own_site p).queues e (hand p).holding may ∙ first))
+      subst (λ o. SubmitsTo o reply (hand p) (hand q)) (sym (to_first (own_site p).queues reply (hand p).holding may ∙ first))
       (record {
         said_here = r.lanes.said;
         said = each_lane (λ l. l ≢ Own → (hand q).said l ≡ (hand p).said l) (λ ne. absurd (ne refl)) (λ j ne. ap (λ (f : FlowLanes). answered_on (hands_of f) j) r.lanes.flows);
         got = each_lane (λ l. (hand q).got l ≡ (hand p).got l) r.lanes.got (λ j. ap (λ (f : FlowLanes). received_on (hands_of f) j) r.lanes.flows);
-        holding = r.lanes.holding ∙ ap (λ n. drop n (hand p).holding) (sym (one_answer (reply_of e) (ends_op (own_site p).queues e may)));
+        holding = r.lanes.holding ∙ ap (λ n. drop n (hand p).holding) (sym (one_answer reply (ends_op (own_site p).queues reply may)));
       });
-  pays = pays_one e p q may few r;
-  there = names (own_site p).queues e may;
-  unshut = λ new _. not_new (own_site p).queues e may new;
+  pays = pays_one reply p q may few r;
+  there = names (own_site p).queues reply may;
+  unshut = λ new _. not_new (own_site p).queues reply may new;
 }
 
-paid_one : (e : Event) (p : Desk) (lanes : Lanes) → MayAnswer (own_site p).queues e → HasFew (brought (e ∷ [])) p → AnswersRow (e ∷ []) p.lanes lanes
-    → IsPocket (pocket_of p + brought (e ∷ [])) ((account_of p).drawn + releases_of lanes) ((account_of p).returned + news_of lanes + mores_of lanes)
-paid_one e p lanes may few r = by_kind may
+paid_one : (reply : Reply) (p : Desk) (lanes : Lanes) → MayAnswer (own_site p).queues reply → HasFew (brought (reply ∷ [])) p → AnswersRow (reply ∷ []) p.lanes lanes
+    → IsPocket (pocket_of p + brought (reply ∷ [])) ((account_of p).drawn + releases_of lanes) ((account_of p).returned + news_of lanes + mores_of lanes)
+paid_one reply p lanes may few r = by_kind may
   where
-    counts : CountsOne (reply_of e) p.lanes lanes
-    counts = counts_own {E = Unit {0}} p.lanes lanes (reply_of e) (Ok tt) r.flows r.said
+    counts : CountsOne reply p.lanes lanes
+    counts = counts_own {E = Unit {0}} p.lanes lanes reply (Ok tt) r.flows r.said
 
     Paid : ℕ → Type 0
     Paid n = IsPocket n ((account_of p).drawn + releases_of lanes) ((account_of p).returned + news_of lanes + mores_of lanes)
 
-    by_kind : MayAnswer (own_site p).queues e → Paid (pocket_of p + brought (e ∷ []))
+    by_kind : MayAnswer (own_site p).queues reply → Paid (pocket_of p + brought (reply ∷ []))
     by_kind (inl forward) =
-        subst Paid (omega (arith, forward_brings e forward.0))
-        (paid_same p.lanes lanes p.pocket (account_of p).drawn (account_of p).returned (counts_forward {E = Unit {0}} p.lanes lanes (reply_of e) (Ok tt) forward.0 counts) p.paid)
+        subst Paid (omega (arith, forward_brings reply forward.0))
+        (paid_same p.lanes lanes p.pocket (account_of p).drawn (account_of p).returned (counts_forward {E = Unit {0}} p.lanes lanes reply (Ok tt) forward.0 counts) p.paid)
     by_kind (inr release) =
-        let one = release_brings e release in
+        let one = release_brings reply release in
         let fits : pocket_of p + 1 < 2 ^ 64 = omega (arith, few.fits (omega (arith, one)), one) in
-        subst Paid (omega (arith, one, fits)) (paid_release p.lanes lanes (reply_of e) p.pocket (account_of p).drawn (account_of p).returned release counts p.paid)
+        subst Paid (omega (arith, one, fits)) (paid_release p.lanes lanes reply p.pocket (account_of p).drawn (account_of p).returned release counts p.paid)
 
-desk_step : (p : Desk) (e : Event) → MayAnswer (own_site p).queues e → first_lane (hand p).holding ≡ Some Own → 0 < room_left p.lanes.own → HasFew (brought (e ∷ [])) p
-    → (m : Desk) × AnswersDesk (e ∷ []) p m × (room_left m.lanes.own + 1 ≡ room_left p.lanes.own)
-desk_step p e may first room few =
-    let s = lanes_step p.lanes e (ends_op (own_site p).queues e may) first room in (
+desk_step : (p : Desk) (reply : Reply) → MayAnswer (own_site p).queues reply → first_lane (hand p).holding ≡ Some Own → 0 < room_left p.lanes.own → HasFew (brought (reply ∷ [])) p
+    → (m : Desk) × AnswersDesk (reply ∷ []) p m × (room_left m.lanes.own + 1 ≡ room_left p.lanes.own)
+desk_step p reply may first room few =
+    let s = lanes_step p.lanes reply (ends_op (own_site p).queues reply may) first room in (
       record {
         pool = p.pool;
         seat = p.seat;
@@ -228,89 +228,89 @@ desk_step p e may first room few =
         implicit = p.implicit;
         quantum = p.quantum;
         threshold = p.threshold;
-        pocket = p.pocket + brought (e ∷ []);
+        pocket = p.pocket + brought (reply ∷ []);
         seat_of = p.seat_of;
         unset = p.unset;
         quantum_fits = p.quantum_fits;
         numbered = ap (λ (l : LanesSite). l.flows.port) s.1.site ∙ p.numbered;
-        paid = paid_one e p s.0 may few s.1;
+        paid = paid_one reply p s.0 may few s.1;
       },
       record { site = ap (at_lanes (own_site p)) s.1.site; account = refl; pocket = refl; lanes = s.1 },
       s.2,
     )
 
-brought_first : (e : Event) (es : List Event) → brought (e ∷ es) ≡ brought (e ∷ []) + brought es
-brought_first e es = omega arith
+brought_first : (reply : Reply) (replies : List Reply) → brought (reply ∷ replies) ≡ brought (reply ∷ []) + brought replies
+brought_first reply replies = omega arith
 
 -- the rest of a row, behind its first
-rest_row : (e : Event) (es : List Event) (p m q : Desk) → AnswersDesk (e ∷ []) p m → AnswersDesk (e ∷ es) p q → AnswersDesk es m q
-rest_row e es p m q s r = record {
+rest_row : (reply : Reply) (replies : List Reply) (p m q : Desk) → AnswersDesk (reply ∷ []) p m → AnswersDesk (reply ∷ replies) p q → AnswersDesk replies m q
+rest_row reply replies p m q s r = record {
   site = r.site ∙ sym s.site;
   account = r.account ∙ sym s.account;
-  pocket = omega (arith, r.pocket, s.pocket, brought_first e es);
+  pocket = omega (arith, r.pocket, s.pocket, brought_first reply replies);
   lanes = record {
     site = r.lanes.site ∙ sym s.lanes.site;
     flows = r.lanes.flows ∙ sym s.lanes.flows;
     got = r.lanes.got ∙ sym s.lanes.got;
-    said = r.lanes.said ∙ sym (append_assoc (answered p.lanes.own) (reply_of e ∷ []) (map reply_of es)) ∙ ap (λ rs. rs ++ map reply_of es) (sym s.lanes.said);
-    holding = r.lanes.holding ∙ grind (arith, common_steps, drop-drop (length es) 1 (hand p).holding) ∙ ap (drop (length es)) (sym s.lanes.holding);
+    said = r.lanes.said ∙ sym (append_assoc (answered p.lanes.own) (reply ∷ []) (replies)) ∙ ap (λ rs. rs ++ replies) (sym s.lanes.said);
+    holding = r.lanes.holding ∙ grind (arith, common_steps, drop-drop (length replies) 1 (hand p).holding) ∙ ap (drop (length replies)) (sym s.lanes.holding);
   };
 }
 
 -- what a row asks for
-pub record MayRow (es : List Event) (p : Desk) : Type 0 where
-  pub answers : All (λ (e : Event). MayAnswer (own_site p).queues e) es
-  pub own : AreOwn (length es) (hand p).holding
-  pub room : length es ≤ room_left p.lanes.own
-  pub few : HasFew (brought es) p
+pub record MayRow (replies : List Reply) (p : Desk) : Type 0 where
+  pub answers : All (λ (reply : Reply). MayAnswer (own_site p).queues reply) replies
+  pub own : AreOwn (length replies) (hand p).holding
+  pub room : length replies ≤ room_left p.lanes.own
+  pub few : HasFew (brought replies) p
 
-may_rest : (e : Event) (es : List Event) (p m : Desk) → MayRow (e ∷ es) p → AnswersDesk (e ∷ []) p m → room_left m.lanes.own + 1 ≡ room_left p.lanes.own → MayRow es m
-may_rest e es p m may s room = record {
-  answers = subst (λ (d : DeskSite). All (λ (x : Event). MayAnswer d.queues x) es) (sym s.site) (λ k d lt. may.answers (suc k) d (omega (arith, lt)));
-  own = subst (AreOwn (length es)) (sym s.lanes.holding) (rest_own (length es) (hand p).holding may.own);
+may_rest : (reply : Reply) (replies : List Reply) (p m : Desk) → MayRow (reply ∷ replies) p → AnswersDesk (reply ∷ []) p m → room_left m.lanes.own + 1 ≡ room_left p.lanes.own → MayRow replies m
+may_rest reply replies p m may s room = record {
+  answers = subst (λ (d : DeskSite). All (λ (x : Reply). MayAnswer d.queues x) replies) (sym s.site) (λ k d lt. may.answers (suc k) d (omega (arith, lt)));
+  own = subst (AreOwn (length replies)) (sym s.lanes.holding) (rest_own (length replies) (hand p).holding may.own);
   room = omega (arith, may.room, room);
   few = record {
-    few = λ some. omega (arith, may.few.few (omega (arith, some, brought_first e es)), s.pocket, brought_first e es, ap (λ (d : DeskSite). d.quantum) s.site);
-    fits = λ some. omega (arith, may.few.fits (omega (arith, some, brought_first e es)), s.pocket, brought_first e es);
+    few = λ some. omega (arith, may.few.few (omega (arith, some, brought_first reply replies)), s.pocket, brought_first reply replies, ap (λ (d : DeskSite). d.quantum) s.site);
+    fits = λ some. omega (arith, may.few.fits (omega (arith, some, brought_first reply replies)), s.pocket, brought_first reply replies);
   };
 }
 
-first_few : (e : Event) (es : List Event) (p : Desk) → MayRow (e ∷ es) p → HasFew (brought (e ∷ [])) p
-first_few e es p may = record {
-  few = λ some. omega (arith, may.few.few (omega (arith, some, brought_first e es)), brought_first e es);
-  fits = λ some. omega (arith, may.few.fits (omega (arith, some, brought_first e es)), brought_first e es);
+first_few : (reply : Reply) (replies : List Reply) (p : Desk) → MayRow (reply ∷ replies) p → HasFew (brought (reply ∷ [])) p
+first_few reply replies p may = record {
+  few = λ some. omega (arith, may.few.few (omega (arith, some, brought_first reply replies)), brought_first reply replies);
+  fits = λ some. omega (arith, may.few.fits (omega (arith, some, brought_first reply replies)), brought_first reply replies);
 }
 
 -- after each of them there is a desk
-step_of : (e : Event) (es : List Event) (p : Desk) → MayRow (e ∷ es) p → (m : Desk) × AnswersDesk (e ∷ []) p m × (room_left m.lanes.own + 1 ≡ room_left p.lanes.own)
-step_of e es p may = desk_step p e (may.answers 0 e (omega arith)) (first_own (length es) (hand p).holding may.own) (omega (arith, may.room)) (first_few e es p may)
+step_of : (reply : Reply) (replies : List Reply) (p : Desk) → MayRow (reply ∷ replies) p → (m : Desk) × AnswersDesk (reply ∷ []) p m × (room_left m.lanes.own + 1 ≡ room_left p.lanes.own)
+step_of reply replies p may = desk_step p reply (may.answers 0 reply (omega arith)) (first_own (length replies) (hand p).holding may.own) (omega (arith, may.room)) (first_few reply replies p may)
 
-one_of : (e : Event) (es : List Event) (p m : Desk) → MayRow (e ∷ es) p → AnswersDesk (e ∷ []) p m → Enqueues e p m
-one_of e es p m may s = one_answered e p m (may.answers 0 e (omega arith)) (first_own (length es) (hand p).holding may.own) (first_few e es p may) s
+one_of : (reply : Reply) (replies : List Reply) (p m : Desk) → MayRow (reply ∷ replies) p → AnswersDesk (reply ∷ []) p m → Enqueues reply.event p m
+one_of reply replies p m may s = one_answered reply p m (may.answers 0 reply (omega arith)) (first_own (length replies) (hand p).holding may.own) (first_few reply replies p may) s
 
-pub answer_chain : (e : Event) (es : List Event) (p q : Desk) → MayRow (e ∷ es) p → AnswersDesk (e ∷ es) p q → EnqueuesAll (e ∷ es) p q
-answer_chain e [] p q may r = (q, one_of e [] p q may r, refl)
-answer_chain e (x ∷ es) p q may r =
-    let s = step_of e (x ∷ es) p may in
-    (s.0, one_of e (x ∷ es) p s.0 may s.1, answer_chain x es s.0 q (may_rest e (x ∷ es) p s.0 may s.1 s.2) (rest_row e (x ∷ es) p s.0 q s.1 r))
+pub answer_chain : (reply : Reply) (replies : List Reply) (p q : Desk) → MayRow (reply ∷ replies) p → AnswersDesk (reply ∷ replies) p q → EnqueuesAll (events_of (reply ∷ replies)) p q
+answer_chain reply [] p q may r = (q, one_of reply [] p q may r, refl)
+answer_chain reply (x ∷ replies) p q may r =
+    let s = step_of reply (x ∷ replies) p may in
+    (s.0, one_of reply (x ∷ replies) p s.0 may s.1, answer_chain x replies s.0 q (may_rest reply (x ∷ replies) p s.0 may s.1 s.2) (rest_row reply (x ∷ replies) p s.0 q s.1 r))
 
 -- ---- what is paid after them
 
-row_then : (e : Event) (es : List Event) (p m q : Desk) → AnswersDesk (e ∷ []) p m → AnswersDesk es m q → AnswersDesk (e ∷ es) p q
-row_then e es p m q s r = record {
+row_then : (reply : Reply) (replies : List Reply) (p m q : Desk) → AnswersDesk (reply ∷ []) p m → AnswersDesk replies m q → AnswersDesk (reply ∷ replies) p q
+row_then reply replies p m q s r = record {
   site = r.site ∙ s.site;
   account = r.account ∙ s.account;
-  pocket = omega (arith, r.pocket, s.pocket, brought_first e es);
+  pocket = omega (arith, r.pocket, s.pocket, brought_first reply replies);
   lanes = record {
     site = r.lanes.site ∙ s.lanes.site;
     flows = r.lanes.flows ∙ s.lanes.flows;
     got = r.lanes.got ∙ s.lanes.got;
-    said = r.lanes.said ∙ ap (λ rs. rs ++ map reply_of es) s.lanes.said ∙ append_assoc (answered p.lanes.own) (reply_of e ∷ []) (map reply_of es);
-    holding = r.lanes.holding ∙ ap (drop (length es)) s.lanes.holding ∙ grind (arith, common_steps, drop-drop (length es) 1 (hand p).holding);
+    said = r.lanes.said ∙ ap (λ rs. rs ++ replies) s.lanes.said ∙ append_assoc (answered p.lanes.own) (reply ∷ []) (replies);
+    holding = r.lanes.holding ∙ ap (drop (length replies)) s.lanes.holding ∙ grind (arith, common_steps, drop-drop (length replies) 1 (hand p).holding);
   };
 }
 
-row_desk : (es : List Event) (p : Desk) → MayRow es p → (m : Desk) × AnswersDesk es p m
+row_desk : (replies : List Reply) (p : Desk) → MayRow replies p → (m : Desk) × AnswersDesk replies p m
 row_desk [] p may = (
   p,
   record {
@@ -320,23 +320,23 @@ row_desk [] p may = (
     lanes = record { site = refl; flows = refl; got = refl; said = sym (append-nil (answered p.lanes.own)); holding = refl };
   },
 )
-row_desk (e ∷ es) p may =
-    let s = step_of e es p may in
-    let r = row_desk es s.0 (may_rest e es p s.0 may s.1 s.2) in
-    (r.0, row_then e es p s.0 r.0 s.1 r.1)
+row_desk (reply ∷ replies) p may =
+    let s = step_of reply replies p may in
+    let r = row_desk replies s.0 (may_rest reply replies p s.0 may s.1 s.2) in
+    (r.0, row_then reply replies p s.0 r.0 s.1 r.1)
 
-same_counts : (es : List Event) (a b c : Lanes) → AnswersRow es a b → AnswersRow es a c → CountsNone b c
-same_counts es a b c r s =
+same_counts : (replies : List Reply) (a b c : Lanes) → AnswersRow replies a b → AnswersRow replies a c → CountsNone b c
+same_counts replies a b c r s =
     counts_same b c (ap flow_site (s.flows ∙ sym r.flows))
     (each_lane (λ l. (hand_of c).said l ≡ (hand_of b).said l) (s.said ∙ sym r.said) (λ j. ap (λ (f : FlowLanes). answered_on (hands_of f) j) (s.flows ∙ sym r.flows)))
 
-pub row_paid : (es : List Event) (p : Desk) (lanes : Lanes) → MayRow es p → AnswersRow es p.lanes lanes
-    → IsPocket (pocket_of p + brought es) ((account_of p).drawn + releases_of lanes) ((account_of p).returned + news_of lanes + mores_of lanes)
-row_paid es p lanes may r =
-    let m = row_desk es p may in
-    subst (λ (w : Account). IsPocket (pocket_of p + brought es) (w.drawn + releases_of lanes) (w.returned + news_of lanes + mores_of lanes)) m.1.account
+pub row_paid : (replies : List Reply) (p : Desk) (lanes : Lanes) → MayRow replies p → AnswersRow replies p.lanes lanes
+    → IsPocket (pocket_of p + brought replies) ((account_of p).drawn + releases_of lanes) ((account_of p).returned + news_of lanes + mores_of lanes)
+row_paid replies p lanes may r =
+    let m = row_desk replies p may in
+    subst (λ (w : Account). IsPocket (pocket_of p + brought replies) (w.drawn + releases_of lanes) (w.returned + news_of lanes + mores_of lanes)) m.1.account
     (subst (λ n. IsPocket n ((account_of m.0).drawn + releases_of lanes) ((account_of m.0).returned + news_of lanes + mores_of lanes)) m.1.pocket
-    (paid_same m.0.lanes lanes m.0.pocket (account_of m.0).drawn (account_of m.0).returned (same_counts es p.lanes m.0.lanes lanes m.1.lanes r) m.0.paid))
+    (paid_same m.0.lanes lanes m.0.pocket (account_of m.0).drawn (account_of m.0).returned (same_counts replies p.lanes m.0.lanes lanes m.1.lanes r) m.0.paid))
 
 -- of the first so many events what holds of more of them
 pub all_fewer : {X : Type 0} (P : X → Type 0) (a b : ℕ) (xs : List X) → a ≤ b → All P (take b xs) → All P (take a xs)
@@ -347,25 +347,25 @@ all_fewer P a b xs within all k d lt =
 pub all_next : {X : Type 0} (P : X → Type 0) (xs : List X) (n : ℕ) (x : X) → slice_get xs n ≡ Some x → All P (take n xs) → P x → All P (take (n + 1) xs)
 all_next P xs n x at all one = subst (All P) (sym (take_next xs n x at)) (All-push P (take n xs) x all one)
 
-pub answers_row : (es : List Event) (p q : Desk) → 0 < length es → MayRow es p → AnswersDesk es p q → EnqueuesAll es p q
+pub answers_row : (replies : List Reply) (p q : Desk) → 0 < length replies → MayRow replies p → AnswersDesk replies p q → EnqueuesAll (events_of replies) p q
 answers_row [] p q some may r = absurd (omega (arith, some))
-answers_row (e ∷ es) p q some may r = answer_chain e es p q may r
+answers_row (reply ∷ replies) p q some may r = answer_chain reply replies p q may r
 
 -- RELEASEs bring as many credits as there are, and FORWARDs none
-pub releases_bring : (es : List Event) → All (λ (e : Event). e.op ≡ ops.Release) es → brought es ≡ length es
+pub releases_bring : (replies : List Reply) → All (λ (reply : Reply). reply.event.op ≡ ops.Release) replies → brought replies ≡ length replies
 releases_bring [] all = refl
-releases_bring (e ∷ es) all =
-    omega (arith, brought_first e es, release_brings e (all 0 e (omega arith)), releases_bring es (λ k d lt. all (suc k) d (omega (arith, lt))))
+releases_bring (reply ∷ replies) all =
+    omega (arith, brought_first reply replies, release_brings reply (all 0 reply (omega arith)), releases_bring replies (λ k d lt. all (suc k) d (omega (arith, lt))))
 
-pub forwards_bring : (es : List Event) (queues : ℕ) → All (λ (e : Event). (e.op ≡ ops.Forward) × (e.queue < queues)) es → brought es ≡ 0
+pub forwards_bring : (replies : List Reply) (queues : ℕ) → All (λ (reply : Reply). (reply.event.op ≡ ops.Forward) × (reply.event.queue < queues)) replies → brought replies ≡ 0
 forwards_bring [] queues all = refl
-forwards_bring (e ∷ es) queues all =
-    omega (arith, brought_first e es, forward_brings e (all 0 e (omega arith)).0, forwards_bring es queues (λ k d lt. all (suc k) d (omega (arith, lt))))
+forwards_bring (reply ∷ replies) queues all =
+    omega (arith, brought_first reply replies, forward_brings reply (all 0 reply (omega arith)).0, forwards_bring replies queues (λ k d lt. all (suc k) d (omega (arith, lt))))
 
--- ---- the first of the events that were told, of no more that are held of the own lane
+-- ---- the first of the replies that were told, of no more that are held of the own lane
 
-pub counted : (n : ℕ) (es : List Event) → n ≤ length es → length (take n es) ≡ n
-counted n es within = omega (arith, length-take n es, within)
+pub counted : (n : ℕ) (replies : List Reply) → n ≤ length replies → length (take n replies) ≡ n
+counted n replies within = omega (arith, length-take n replies, within)
 
 -- so many answers may go to the own lane in a row
 pub record IsOwnRow (n : ℕ) (p : Desk) : Type 0 where
@@ -373,22 +373,22 @@ pub record IsOwnRow (n : ℕ) (p : Desk) : Type 0 where
   pub own : All (λ (x : Holding). x.lane ≡ Own) (take n (hand p).holding)
   pub room : n ≤ room_left p.lanes.own
 
-module _ (p : Desk) (events : List Event) (n own : ℕ) (within : n ≤ length events) (fewer : n ≤ own) (row : IsOwnRow own p) where
-  may_row : All (λ (e : Event). MayAnswer (own_site p).queues e) (take n events) → HasFew (brought (take n events)) p → MayRow (take n events) p
+module _ (p : Desk) (replies : List Reply) (n own : ℕ) (within : n ≤ length replies) (fewer : n ≤ own) (row : IsOwnRow own p) where
+  may_row : All (λ (reply : Reply). MayAnswer (own_site p).queues reply) (take n replies) → HasFew (brought (take n replies)) p → MayRow (take n replies) p
   may_row answers few = record {
     answers = answers;
-    own = subst (λ k. AreOwn k (hand p).holding) (sym (counted n events within)) (are_own n (hand p).holding (omega (arith, fewer, row.held)) (all_fewer (λ (x : Holding). x.lane ≡ Own) n own (hand p).holding fewer row.own));
-    room = omega (arith, counted n events within, fewer, row.room);
+    own = subst (λ k. AreOwn k (hand p).holding) (sym (counted n replies within)) (are_own n (hand p).holding (omega (arith, fewer, row.held)) (all_fewer (λ (x : Holding). x.lane ≡ Own) n own (hand p).holding fewer row.own));
+    room = omega (arith, counted n replies within, fewer, row.room);
     few = few;
   }
 
-  pub may_release : All (λ (e : Event). e.op ≡ ops.Release) (take n events) → pocket_of p + n < 2 * (own_site p).quantum → pocket_of p + n < 2 ^ 64 → MayRow (take n events) p
+  pub may_release : All (λ (reply : Reply). reply.event.op ≡ ops.Release) (take n replies) → pocket_of p + n < 2 * (own_site p).quantum → pocket_of p + n < 2 ^ 64 → MayRow (take n replies) p
   may_release releases few fits =
-      let all = releases_bring (take n events) releases in
-      let len = counted n events within in
+      let all = releases_bring (take n replies) releases in
+      let len = counted n replies within in
       may_row (λ k d lt. inr (releases k d lt)) (record { few = λ _. omega (arith, all, len, few); fits = λ _. omega (arith, all, len, fits) })
 
-  pub may_forward : All (λ (e : Event). (e.op ≡ ops.Forward) × (e.queue < (own_site p).queues)) (take n events) → MayRow (take n events) p
+  pub may_forward : All (λ (reply : Reply). (reply.event.op ≡ ops.Forward) × (reply.event.queue < (own_site p).queues)) (take n replies) → MayRow (take n replies) p
   may_forward forwards =
-      let none = forwards_bring (take n events) (own_site p).queues forwards in
+      let none = forwards_bring (take n replies) (own_site p).queues forwards in
       may_row (λ k d lt. inl (forwards k d lt)) (record { few = λ some. absurd (omega (arith, some, none)); fits = λ some. absurd (omega (arith, some, none)) })

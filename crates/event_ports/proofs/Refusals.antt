@@ -1,6 +1,5 @@
 -- Why the answer to the oldest that is held is refused, or what is added beside it.
-use Rattle.std.proofs.Common.{◌≡◌, ◌≢◌, ◌<◌, ◌≤◌, ℕ, true, cond, List, [], ◌∷◌, ◌++◌, length, drop, Some, Result, Ok, Err, IfErr, IsOk, MatchResult, refl, sym, ap, ◌∙◌, subst, arith}
-use Rattle.std.proofs.lemmas.List.{drop_all}
+use Rattle.std.proofs.Common.{◌≡◌, ◌≢◌, ◌<◌, ◌≤◌, ℕ, true, cond, List, [], ◌∷◌, ◌++◌, length, Some, Result, Ok, Err, IfErr, MatchResult, refl, sym, ap, subst, arith}
 use Rattle.std.proofs.lemmas.List.Sums.{sum_by-cons}
 use Rattle.evt_types.specs.Additions.{extras_of}
 use Rattle.evt_types.specs.Operation.{is_answer, is_answer_op, is_more_op, is_more_reply, is_new_op, is_new_reply}
@@ -24,14 +23,6 @@ use Rattle.event_ports.proofs.Orders.{some_first}
 -- an answer answers one
 pub one_answer : (r : Reply) → is_answer r ≡ true → answers_among (r ∷ []) ≡ 1
 one_answer r e = omega (arith, sum_by-cons (λ (x : Reply). cond (is_answer x) 1 0) r [], ap {B = ℕ} (λ b. cond b 1 0) e)
-
--- the only one that is unanswered is answered
-pub last_answered : {E : Type 0} (far after : Far) (r : Reply) (result : Result (Unit {0}) E) → is_answer r ≡ true → length (unanswered far) ≡ 1
-    → MatchResult result (λ _. unanswered after ≡ []) (λ _. unanswered after ≡ unanswered far)
-    → MatchResult result (λ _. unanswered after ≡ drop (answers_among (r ∷ [])) (unanswered far)) (λ _. unanswered after ≡ unanswered far)
-last_answered far after r (Ok _) answers one none =
-    none ∙ sym (ap (λ n. drop n (unanswered far)) (one_answer r answers) ∙ drop_all 1 (unanswered far) (omega (arith, one)))
-last_answered far after r (Err _) answers one same = same
 
 -- what is added answers none
 no_answer_op : (o : Op) → is_more_op o ≡ true → count (is_answer_op o) ≡ 0
@@ -83,14 +74,3 @@ pub all_full : (far after : Far) (r : Reply) (result : Result (Unit {0}) Refusal
     → IfErr result (λ e. (e ≡ Full) × ((far_id after).room ≤ length (answered after)))
 all_full far after r (Ok _) refused some few lane same = refused
 all_full far after r (Err refusal) refused some few lane same = full_alone far after r refusal refused some few lane same
-
--- the last that is held is answered, or the ring is full
-pub none_after : {A E : Type 0} (result : Result (Unit {0}) E) (xs ys : List A) → MatchResult result (λ _. xs ≡ []) (λ _. xs ≡ ys) → IsOk result → xs ≡ []
-none_after (Ok _) xs ys none ok = none
-none_after (Err _) xs ys same ok = absurd (cc)
-
-pub full_after : (far after : Far) (r : Reply) (result : Result (Unit {0}) Refusal) → IfErr result (λ e. (e ≡ Full) × ((far_id far).room ≤ length (answered far))) → far_id after ≡ far_id far
-    → MatchResult result (λ _. answered after ≡ answered far ++ r ∷ []) (λ _. answered after ≡ answered far)
-    → IfErr result (λ e. (e ≡ Full) × ((far_id after).room ≤ length (answered after)))
-full_after far after r (Ok _) refused lane same = refused
-full_after far after r (Err _) refused lane same = (refused.0, omega (arith, refused.1, ap (λ (i : LaneId). i.room) lane, ap length same))

@@ -43,9 +43,6 @@ module _ (a : Inside) (ring : IsRing a) where
   pub length_held : length (in_ring a) ≡ a.len
   length_held = length-window 64 a.first a.len a.places.items ring.first all_fit ring.places
 
-  pub holds_some : (v : Held) → holds (in_ring a) a.capacity a.notes ≡ v → 0 < length v.items → 0 < a.len
-  holds_some v is some = omega (arith, some, length_held, ap (λ (v : Held). length v.items) is)
-
   pub has_room : (v : Held) (n : ℕ) → holds (in_ring a) a.capacity a.notes ≡ v → length v.items + n ≤ v.capacity → a.len + n ≤ a.capacity
   has_room v n is room = omega (arith, room, length_held, ap (λ (v : Held). length v.items) is, ap (λ (v : Held). v.capacity) is)
 

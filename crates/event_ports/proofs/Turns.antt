@@ -1,13 +1,11 @@
 -- What a call on one flow lane makes of what a port has of all of them.
 use Rattle.std.proofs.Common.{◌≡◌, ◌≢◌, ℕ, suc, ◌<◌, Bool, true, false, List, [], ◌∷◌, ◌++◌, length, drop, set, Option, Some, None, Result, Ok, Err, All, MatchResult, refl, sym, ap, ◌∙◌, subst, arith, append-nil, append_assoc}
-use Rattle.std.specs.Option.{is_some}
 use Rattle.std.proofs.lemmas.List.{length-set, get_or-set_other}
 use Rattle.std.proofs.lemmas.Option.{none-some}
 use Rattle.std.proofs.lemmas.List.Elements.{All-push}
 use mathlib.Core.Logic.{dite}
 use native.Mathlib.Decide.{ℕ_discrete, dec_le}
 use Rattle.lists.specs.Lists.{has}
-use Rattle.lane_rings.specs.Identity.{LaneId, far_id}
 use Rattle.evt_types.specs.declared.event.Delivery.{Delivery}
 use Rattle.evt_types.specs.declared.event.Reply.{Reply}
 use Rattle.lane_rings.specs.Ends.{answered, answers_among, unanswered, Comes}
@@ -25,10 +23,10 @@ use Rattle.flow_claims.specs.Stints.{left_in, received_in, answered_in}
 use Rattle.flow_claims.proofs.Held.{nothing_held}
 use Rattle.lane_rings.specs.declared.hints.LaneSet.{LaneSet}
 use Rattle.event_ports.specs.Looks.{HasHeld}
-use Rattle.event_ports.specs.Holds.{entry_at, IsHeldAt, AreFlows, AreShown, stints_at, received_past, answered_past, left_past, surrendered_past, left_on, LeavesFree, received_now, answered_now, extras_now, held_now, Hands, received_on, answered_on, extras_on, Flushed, IsFilledBy, Kept, Same, SameBut, Gets, Brings, Says}
+use Rattle.event_ports.specs.Holds.{entry_at, IsHeldAt, AreFlows, stints_at, received_past, answered_past, left_past, surrendered_past, left_on, LeavesFree, received_now, answered_now, extras_now, held_now, Hands, received_on, answered_on, extras_on, Kept, Same, SameBut, Gets, Brings, Says}
 use Rattle.event_ports.proofs.Extras.{extras_push, none_extra}
 use Rattle.event_ports.proofs.Unanswered.{left_here, left_other, surrendered, none_surrendered, others_surrendered}
-use Rattle.event_ports.proofs.Entries.{Stints, at_each, hands, each_entry, moved, free_entry, held_at_entry, past_entries, past_more, other_stints, same_but, received_here, answered_here, extras_here, held_here, all_same}
+use Rattle.event_ports.proofs.Entries.{Stints, hands, each_entry, moved, free_entry, held_at_entry, past_entries, past_more, other_stints, same_but, received_here, answered_here, extras_here, held_here, all_same}
 
 module _ (claims : Claims) (links : List ℕ) where
   ports_stay : (seat after : ClaimSeat) → KeepsPort seat after → IsPorts (port_of seat) (seating seat) → IsPorts (port_of after) (seating after)
@@ -205,22 +203,11 @@ module _ (claims : Claims) (links : List ℕ) where
     same_extras : answered new.far ≡ answered stint.far → extras_on (hands (seating seat) (set ss lane (Some new))) lane ≡ extras_on (hands (seating seat) ss) lane
     same_extras e = extras_here links (seating seat) (seating seat) ss lane (Some new) inside ∙ ap extras_of e ∙ sym (ap extras_now at)
 
-    pub turn_same : received_so_far (seating seat) new ≡ received_so_far (seating seat) stint → answered_so_far (seating seat) new ≡ answered_so_far (seating seat) stint
+    turn_same : received_so_far (seating seat) new ≡ received_so_far (seating seat) stint → answered_so_far (seating seat) new ≡ answered_so_far (seating seat) stint
         → unanswered new.far ≡ unanswered stint.far → answered new.far ≡ answered stint.far → Same (hands (seating seat) ss) (hands (seating seat) (set ss lane (Some new)))
     turn_same r a u all =
         all_same lane (hands (seating seat) ss) (hands (seating seat) (set ss lane (Some new))) but (same_received r) (same_answered a)
         (held_here links (seating seat) (seating seat) ss lane (Some new) inside ∙ u ∙ sym (ap held_now at)) (same_extras all) (λ j. refl)
-
-    -- what was gathered went into the ring
-    pub turn_flushed : received_so_far (seating seat) new ≡ received_so_far (seating seat) stint → answered_so_far (seating seat) new ≡ answered_so_far (seating seat) stint
-        → unanswered new.far ≡ unanswered stint.far → answered new.far ≡ answered stint.far → far_id new.far ≡ far_id stint.far
-        → Flushed (hands (seating seat) ss) (hands (seating seat) (set ss lane (Some new)))
-    turn_flushed r a u all id = record {
-      same = turn_same r a u all;
-      entries = at_each (λ o p. is_some p ≡ is_some o) ss lane (Some new) inside (ap is_some (sym at)) (λ o. refl);
-      filled = at_each (λ o p. IsFilledBy o → IsFilledBy p) ss lane (Some new) inside
-          (λ filled. let was : IsFilledBy (Some stint) = subst IsFilledBy at filled in omega (arith, was, ap (λ (i : LaneId). i.room) id, ap length all)) (λ o is. is);
-    }
 
     pub turn_gets : (ds : List Delivery) → received_so_far (seating seat) new ≡ received_so_far (seating seat) stint ++ ds → answered_so_far (seating seat) new ≡ answered_so_far (seating seat) stint
         → unanswered new.far ≡ unanswered stint.far ++ ds → answered new.far ≡ answered stint.far → Gets lane ds (hands (seating seat) ss) (hands (seating seat) (set ss lane (Some new)))
@@ -253,7 +240,7 @@ module _ (claims : Claims) (links : List ℕ) where
         → Brings lane (hands (seating seat) ss) old (hands (seating seat) (set ss lane (Some new))) into
     brought old into is c received so_far all = record { came = c.came; array = c.array; gets = turn_gets c.came (received (seating seat) is c) (so_far (seating seat)) c.held all }
 
-    -- an answer: `Stint::stage` in its own words
+    -- an answer: `Stint::submit` in its own words
     pub answered_lists : {E : Type 0} (reply : Reply) (result : Result (Unit {0}) E) → IsOpen (seating seat) stint
         → MatchResult result (λ _. unanswered new.far ≡ drop (answers_among (reply ∷ [])) (unanswered stint.far)) (λ _. unanswered new.far ≡ unanswered stint.far)
         → ((v : Seating) → IsOpen v stint → MatchResult result (λ _. answered_so_far v new ≡ answered_so_far v stint ++ reply ∷ []) (λ _. answered_so_far v new ≡ answered_so_far v stint))
@@ -264,11 +251,10 @@ module _ (claims : Claims) (links : List ℕ) where
     answered_lists reply (Err _) is held so_far received all = turn_same (received (seating seat)) (so_far (seating seat) is) held all
 
 -- where the entry that was borrowed is written back as it was, nothing changes
-pub entries_back : (claims : Claims) (seat : ClaimSeat) (links : List ℕ) (touched : Option ℕ) (lanes : LaneSet) (ss ts : Stints) → ts ≡ ss
-    → AreFlows claims seat ss links → AreShown touched ss → HasHeld lanes ss → AreFlows claims seat ts links × AreShown touched ts × HasHeld lanes ts
-entries_back claims seat links touched lanes ss ts back are shown has_held = (
+pub entries_back : (claims : Claims) (seat : ClaimSeat) (links : List ℕ) (lanes : LaneSet) (ss ts : Stints) → ts ≡ ss
+    → AreFlows claims seat ss links → HasHeld lanes ss → AreFlows claims seat ts links × HasHeld lanes ts
+entries_back claims seat links lanes ss ts back are has_held = (
   subst (λ (xs : Stints). AreFlows claims seat xs links) (sym back) are,
-  subst (AreShown touched) (sym back) shown,
   subst (HasHeld lanes) (sym back) has_held,
 )
 
@@ -276,13 +262,6 @@ pub same_back : (v : Seating) (ss ts : Stints) → ts ≡ ss → Same (hands v s
 same_back v ss ts back =
     let same : Same (hands v ss) (hands v ss) = record { received = λ j. refl; answered_is = λ j. refl; held = λ j. refl; extras = λ j. refl; given_back = λ j. refl } in
     subst (λ (xs : Stints). Same (hands v ss) (hands v xs)) (sym back) same
-
-pub flushed_back : (v : Seating) (ss ts : Stints) → ts ≡ ss → Flushed (hands v ss) (hands v ts)
-flushed_back v ss ts back = record {
-  same = same_back v ss ts back;
-  entries = λ j. ap (λ (xs : Stints). is_some (entry_at xs j)) back;
-  filled = λ j is. subst (λ (xs : Stints). IsFilledBy (entry_at xs j)) (sym back) is;
-}
 
 pub all_kept : (lane : ℕ) (h k : Hands) → SameBut lane h k → received_on k lane ≡ received_on h lane → answered_on k lane ≡ answered_on h lane → ((j : ℕ) → left_on k j ≡ left_on h j) → LeavesFree h k → Kept h k
 all_kept lane h k others received answered left free =

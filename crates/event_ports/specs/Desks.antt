@@ -1,5 +1,5 @@
--- What a clause sees of a desk, which is a port whose replies may not all be in the rings yet, and why it refuses.
-use Rattle.std.specs.Prelude.{◌≡◌, ◌≢◌, ℕ, ◌+◌, ◌%◌, ◌^◌, ◌<◌, ◌≤◌, ◌⊎◌, Bool, List, [], ◌∷◌, length, take, slice_get, if◌then◌else◌, Option, IsFalse, IsTrue}
+-- What a clause sees of a desk, and why it refuses.
+use Rattle.std.specs.Prelude.{◌≡◌, ◌≢◌, ℕ, ◌+◌, ◌%◌, ◌^◌, ◌<◌, ◌≤◌, ◌⊎◌, Bool, List, [], ◌∷◌, length, map, take, slice_get, if◌then◌else◌, Option, IsFalse, IsTrue}
 use Rattle.std.specs.Prelude.Option.{Some, None}
 use Rattle.std.specs.Arc.{arc_value}
 use Rattle.std.specs.Option.{is_some}
@@ -7,6 +7,7 @@ use Rattle.evt_types.specs.declared.event.Delivery.{Delivery}
 use Rattle.evt_types.specs.declared.event.Event.{Event}
 use Rattle.evt_types.specs.declared.event.Op.{Op}
 use Rattle.evt_types.specs.declared.event.Op.TheVariants as ops
+use Rattle.evt_types.specs.declared.event.Reply.{Reply}
 use Rattle.evt_types.specs.Limits.{most_extras}
 use Rattle.evt_types.specs.Operation.{costs_credit}
 use Rattle.credit_pool.specs.declared.account.Account.{Account}
@@ -189,18 +190,14 @@ pub record Enqueues (e : Event) (p q : Desk) : Type 0 where
   pub there : NamesQueue (own_site p).queues e
   pub unshut : e.op ≡ ops.New → IsTrue (account_of p).saw_shut → ⊥
 
+-- the events of these replies
+abbrev pub events_of : List Reply → List Event
+events_of rs = map (λ (r : Reply). r.event) rs
+
 -- these were taken, one after the other
 abbrev pub EnqueuesAll : List Event → Desk → Desk → Type 0
 EnqueuesAll [] p q = q ≡ p
 EnqueuesAll (e ∷ es) p q = (between : Desk) × Enqueues e p between × EnqueuesAll es between q
-
--- a flush: all else stays
-pub record IsFlushed (p q : Desk) : Type 0 where
-  pub site : own_site q ≡ own_site p
-  pub account : account_of q ≡ account_of p
-  pub pocket : pocket_of q ≡ pocket_of p
-  pub hands : hand q ≡ hand p
-  pub filled : (o : Op) → was_filled p o → was_filled q o
 
 -- an event was refused: what `Port::enqueue` says of one that it refuses
 pub record Declines (e : Event) (refusal : Refused) (p q : Desk) : Type 0 where
@@ -212,18 +209,8 @@ pub record Declines (e : Event) (refusal : Refused) (p q : Desk) : Type 0 where
 
 -- what comes after the events that were taken: the end, or the next event was refused
 abbrev pub EndsWith : Option Refused → List Event → ℕ → Desk → Desk → Type 0
-EndsWith None events n p q = IsFlushed p q
+EndsWith None events n p q = q ≡ p
 EndsWith (Some refusal) events n p q = (event : Event) × (slice_get events n ≡ Some event) × Declines event refusal p q
-
--- the same where what was gathered isn't in the rings yet
-abbrev pub GathersUpTo : Option Refused → List Event → ℕ → Desk → Desk → Type 0
-GathersUpTo None events n p q = q ≡ p
-GathersUpTo (Some refusal) events n p q = (event : Event) × (slice_get events n ≡ Some event) × Declines event refusal p q
-
-pub record Gathers (p : Desk) (events : List Event) (n : ℕ) (end : Option Refused) (q : Desk) : Type 0 where
-  pub between : Desk
-  pub taken : EnqueuesAll (take n events) p between
-  pub ends : GathersUpTo end events n between q
 
 -- Of these events the first n were taken, one after the other, and then the end or a refusal came.
 pub record Bursts (p : Desk) (events : List Event) (n : ℕ) (end : Option Refused) (q : Desk) : Type 0 where

@@ -1,15 +1,11 @@
 -- What a clause sees of a port's flow lanes.
-use Rattle.std.specs.Prelude.{ℕ, List, Option}
+use Rattle.std.specs.Prelude.{ℕ, List}
 use Rattle.std.specs.Arc.{arc_value}
 use Rattle.flow_claims.specs.declared.claims.Claims.{Claims}
 use Rattle.flow_claims.specs.Claims.{seating, port_of}
 use Rattle.lane_rings.specs.declared.hints.LaneSet.{LaneSet}
 use Rattle.event_ports.specs.declared.flows.FlowLanes.{FlowLanes}
 use Rattle.event_ports.specs.Holds.{Hands}
-
--- the lane that was answered last, where what was answered isn't in the ring yet
-abbrev pub touched_of : FlowLanes → Option ℕ
-touched_of f = f.touched
 
 -- the set of the links
 abbrev pub linked_of : FlowLanes → LaneSet

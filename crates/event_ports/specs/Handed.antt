@@ -1,12 +1,11 @@
 -- What a clause sees of a port's lanes.
-use Rattle.std.specs.Prelude.{◌≡◌, ◌≢◌, ◌+◌, ◌<◌, ℕ, true, List, [], ◌++◌, length, map, drop, Option}
+use Rattle.std.specs.Prelude.{◌≡◌, ◌≢◌, ◌+◌, ◌<◌, ℕ, true, List, [], ◌++◌, length, drop, Option}
 use Rattle.lists.specs.Lists.{has}
 use Rattle.evt_types.specs.Operation.{is_more_reply, is_new_reply, is_release_reply}
 use Rattle.evt_types.specs.declared.event.Delivery.{Delivery}
-use Rattle.evt_types.specs.declared.event.Event.{Event}
 use Rattle.evt_types.specs.declared.event.Reply.{Reply}
 use Rattle.lists.specs.Counts.{count}
-use Rattle.lane_rings.specs.Ends.{answered, hidden_answers, received_by, seen_deliveries}
+use Rattle.lane_rings.specs.Ends.{answered, received_by, seen_deliveries}
 use Rattle.lane_rings.specs.Identity.{far_id, LaneId}
 use Rattle.lane_rings.specs.declared.far.Refusal.{Refusal}
 use Rattle.flow_claims.specs.declared.seating.Seating.{Seating}
@@ -15,8 +14,8 @@ use Rattle.event_ports.specs.declared.lane.Lane.{Lane}
 use Rattle.event_ports.specs.declared.lane.Lane.TheVariants.{Own, Flow}
 use Rattle.event_ports.specs.declared.lanes.Lanes.{Lanes}
 use Rattle.event_ports.specs.Flows.{FlowSite, flow_site, hands_of}
-use Rattle.event_ports.specs.Holds.{Hands, NoneHidden}
-use Rattle.event_ports.specs.Lanes.{Hand, held_in, said_on, got_on, counted, reply_of, IsFilledAt, RefusesFirst}
+use Rattle.event_ports.specs.Holds.{Hands}
+use Rattle.event_ports.specs.Lanes.{Hand, held_in, said_on, got_on, counted, IsFilledAt, RefusesFirst}
 
 -- what never changes of a port's lanes: the own one, the flow lanes, and how much may be held
 pub record LanesSite : Type 0 where
@@ -50,11 +49,6 @@ flow_hands a = hands_of a.flows
 abbrev pub seen_own : Lanes → List Delivery
 seen_own a = seen_deliveries a.own
 
--- all that was submitted went into the rings: that of the own lane, and those of the flow lanes that are held
-pub record AllShown (a : Lanes) : Type 0 where
-  pub own : hidden_answers a.own ≡ []
-  pub flows : NoneHidden (hands_of a.flows)
-
 -- deliveries came from a flow lane only where no more was seen in the ring of the own lane
 abbrev pub OwnFirst : Lanes → Lanes → List Delivery → Type 0
 OwnFirst a b came = length ((hand_of b).got Own) ≢ length ((hand_of a).got Own) + length came → seen_own b ≡ []
@@ -86,12 +80,20 @@ pub record CountsNone (a b : Lanes) : Type 0 where
   pub releases : releases_of b ≡ releases_of a
 
 -- these answers went to the own lane, one after the other, each to the oldest that was held
-pub record AnswersRow (es : List Event) (a b : Lanes) : Type 0 where
+pub record AnswersRow (rs : List Reply) (a b : Lanes) : Type 0 where
   pub site : lanes_site b ≡ lanes_site a
   pub flows : b.flows ≡ a.flows
   pub got : received_by b.own ≡ received_by a.own
-  pub said : answered b.own ≡ answered a.own ++ map reply_of es
-  pub holding : (hand_of b).holding ≡ drop (length es) (hand_of a).holding
+  pub said : answered b.own ≡ answered a.own ++ rs
+  pub holding : (hand_of b).holding ≡ drop (length rs) (hand_of a).holding
+
+-- these NEWs went to the own lane, one after the other
+pub record BringsRow (rs : List Reply) (a b : Lanes) : Type 0 where
+  pub site : lanes_site b ≡ lanes_site a
+  pub flows : b.flows ≡ a.flows
+  pub got : received_by b.own ≡ received_by a.own
+  pub said : answered b.own ≡ answered a.own ++ rs
+  pub holding : (hand_of b).holding ≡ (hand_of a).holding
 
 -- as many replies were given to the lane as its reply ring has room for
 abbrev pub IsFilled : Lanes → Option Lane → Type 0

@@ -7,7 +7,7 @@ use Rattle.evt_types.specs.Additions.{extras_of, more_after}
 use Rattle.evt_types.specs.Operation.{is_new_reply}
 use Rattle.evt_types.specs.declared.event.Delivery.{Delivery}
 use Rattle.evt_types.specs.declared.event.Reply.{Reply}
-use Rattle.lane_rings.specs.Ends.{answered, answers_among, hidden_answers, seen_deliveries, unanswered}
+use Rattle.lane_rings.specs.Ends.{answered, answers_among, seen_deliveries, unanswered}
 use Rattle.lane_rings.specs.Identity.{far_id}
 use Rattle.flow_claims.specs.declared.claim.Stint.{Stint}
 use Rattle.flow_claims.specs.declared.claims.Claims.{Claims}
@@ -90,15 +90,6 @@ abbrev pub extras_now : Option Stint → ℕ
 extras_now None = 0
 extras_now (Some stint) = extras_of (answered stint.far)
 
--- what was answered in it and is not in the ring yet
-abbrev pub hidden_in : Option Stint → List Reply
-hidden_in None = []
-hidden_in (Some stint) = hidden_answers stint.far
-
--- of one lane at most something is hidden: of the one that was answered last
-abbrev pub AreShown : Option ℕ → List (Option Stint) → Type 0
-AreShown touched stints = (lane : ℕ) → touched ≢ Some lane → hidden_in (entry_at stints lane) ≡ []
-
 -- what a port has of its flow lanes
 pub record Hands : Type 0 where
   pub view : Seating
@@ -128,10 +119,6 @@ pub record AddedAll (h : Hands) : Type 0 where
 abbrev pub left_on : Hands → ℕ → List Delivery
 left_on h lane = left_past lane h.view.finished ++ held_on h lane
 
--- all that was answered went into the rings
-abbrev pub NoneHidden : Hands → Type 0
-NoneHidden h = (lane : ℕ) → hidden_in (stint_in h lane) ≡ []
-
 -- each lane that was held before was given back
 abbrev pub GaveBack : Hands → Type 0
 GaveBack h = (lane : ℕ) → surrendered_past lane h.view.finished ≡ []
@@ -147,11 +134,6 @@ LeavesFree h k = (lane : ℕ) → stint_in h lane ≡ None → (stint_in k lane 
 -- no lane is held of which nothing is unanswered
 abbrev pub AreIdle : Hands → Type 0
 AreIdle h = (lane : ℕ) → held_on h lane ≡ [] → is_some (stint_in h lane) ≡ false
-
--- of the stint just one delivery is unanswered, and all that was answered went into the ring
-abbrev pub HoldsLast : Option Stint → Type 0
-HoldsLast None = ⊥
-HoldsLast (Some stint) = (length (unanswered stint.far) ≡ 1) × (hidden_answers stint.far ≡ [])
 
 -- no NEW was submitted to a flow lane
 abbrev pub HaveNoNew : Hands → Type 0
@@ -178,12 +160,6 @@ pub record Same (h k : Hands) : Type 0 where
   pub held : (lane : ℕ) → held_on k lane ≡ held_on h lane
   pub extras : (lane : ℕ) → extras_on k lane ≡ extras_on h lane
   pub given_back : NoneSurrendered h k
-
--- What was answered was made visible, and no more.
-pub record Flushed (h k : Hands) : Type 0 where
-  pub same : Same h k
-  pub entries : (lane : ℕ) → is_some (stint_in k lane) ≡ is_some (stint_in h lane)
-  pub filled : (lane : ℕ) → IsFilledBy (stint_in h lane) → IsFilledBy (stint_in k lane)
 
 -- But for what is held: a lane may be surrendered, and what is unanswered of it is left.
 pub record Kept (h k : Hands) : Type 0 where

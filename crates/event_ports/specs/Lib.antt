@@ -13,3 +13,4 @@ pub mod Counts
 pub mod Ports
 pub mod Parts
 pub mod Stop
+pub mod Rows

@@ -1,5 +1,4 @@
-//! The desk of a port: all that it has. Between two calls of the port nothing that was enqueued is gathered any more; in a call
-//! replies are gathered at the desk, so that several go into their ring by one store.
+//! The desk of a port: all that it has, but for what it counts.
 
 ghost use Rattle.std.specs.Prelude.{◌≡◌, ◌+◌, ◌<◌, ◌≤◌, false};
 ghost use Rattle.std.specs.Arc.{arc_value};
@@ -46,8 +45,7 @@ impl Desk {
     ghost use Rattle.event_ports.specs.Lanes.{Rests, SubmitsTo, TakesMore, lane_for, reply_of};
     ghost use Rattle.event_ports.specs.Draws.{HasLooked, ReturnsSpare};
     ghost use Rattle.event_ports.specs.Queues.{NamesQueue};
-    ghost use Rattle.event_ports.specs.Handed.{AllShown};
-    ghost use Rattle.event_ports.specs.Desks.{own_site, account_of, claim_seating, pocket_of, hand, was_filled, SameCredits, IsFlushed, MaySpendMore, Pays, Refuses, SpendsNone};
+    ghost use Rattle.event_ports.specs.Desks.{own_site, account_of, claim_seating, pocket_of, hand, was_filled, SameCredits, MaySpendMore, Pays, Refuses, SpendsNone};
 
     // Whether the device is shut, by one look at the credits.
     pub(crate) fn shut_seen(&mut self) -> bool
@@ -63,7 +61,7 @@ impl Desk {
         shut
     }
 
-    // Enqueues an event, which the scheduler sees after the next `flush`.
+    // Enqueues an event.
     #[inline(always)]
     pub(crate) fn submit(&mut self, event: &PackedEvent) -> Result<(), Refused>
         ensures site { own_site self.new ≡ own_site self.old }
@@ -103,15 +101,6 @@ impl Desk {
             },
             Op::New | Op::ForwardMore => self.enqueue_more(event),
         }
-    }
-
-    // Makes all that was enqueued visible to the scheduler.
-    pub(crate) fn flush(&mut self)
-        ensures flushed { IsFlushed self.old self.new }
-        ensures seat { claim_seating self.new ≡ claim_seating self.old }
-        ensures shown { AllShown self.new.lanes }
-    {
-        self.lanes.flush();
     }
 
     // Draws a quantum where the pocket is empty.

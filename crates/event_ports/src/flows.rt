@@ -1,7 +1,7 @@
 //! The flow lanes of a port: those that it holds, and those that it is linked to.
 
 ghost use Rattle.std.specs.Arc.{arc_value};
-ghost use Rattle.event_ports.specs.Holds.{AreFlows, AreShown};
+ghost use Rattle.event_ports.specs.Holds.{AreFlows};
 ghost use Rattle.event_ports.specs.Looks.{AreFirst, IsLinkSet, HasHeld};
 
 use evt_types::{Delivery, PackedEvent};
@@ -17,15 +17,12 @@ pub(crate) struct FlowLanes {
     seat: ClaimSeat,
     stints: Vec<Option<Stint>>,
     links: Vec<usize>,
-    /// The lane that was answered last, where what was answered wasn't flushed.
-    touched: Option<usize>,
     /// The hints of the device, the lanes of the links, and those that the port holds. A dequeue finds the lanes to look at by these
     /// three. No promise rests on the hints.
     hints: Arc<Hints, Global>,
     linked: LaneSet,
     held: LaneSet,
     ghost are: { AreFlows (arc_value claims) seat stints.items links.items },
-    ghost shown: { AreShown touched stints.items },
     ghost placed: { IsLinkSet linked links.items },
     ghost has_held: { HasHeld held stints.items },
 }
@@ -70,8 +67,8 @@ impl FlowLanes {
     ghost use Rattle.flow_claims.specs.Seats.{HoldsNone};
     ghost use Rattle.flow_claims.specs.Answers.{AsksNone};
     ghost use Rattle.event_ports.specs.Claiming.{ClaimsEach};
-    ghost use Rattle.event_ports.specs.Holds.{AreIdle, HoldsLast, IsDrained, IsFilledBy, hidden_in, AreLinked, Brings, Flushed, NoneHidden, Same, Kept, Says, Ends, AreEmpty, extras_on, stint_in, held_on};
-    ghost use Rattle.event_ports.specs.Flows.{hands_of, flow_site, linked_of, touched_of};
+    ghost use Rattle.event_ports.specs.Holds.{AreIdle, IsDrained, IsFilledBy, AreLinked, Brings, Same, Kept, Says, Ends, AreEmpty, extras_on, stint_in, held_on};
+    ghost use Rattle.event_ports.specs.Flows.{hands_of, flow_site, linked_of};
     ghost use Rattle.event_ports.specs.Looks.{IsIn};
 
     /// The flow lanes of a port whose seat has no stint, with a position for each.
@@ -88,7 +85,6 @@ impl FlowLanes {
         requires entries { stints.items ≡ replicate (length (lanes_of (arc_value claims))) None }
         ensures site { flow_site result ≡ record { claims = arc_value claims; port = port_of seat; links = links.items; parts = (seating seat).parts } }
         ensures empty { AreEmpty (hands_of result) }
-        ensures shown { NoneHidden (hands_of result) }
     {
         let linked = lanes_of_links(&links);
         FlowLanes {
@@ -96,7 +92,6 @@ impl FlowLanes {
             seat,
             stints,
             links,
-            touched: None,
             hints,
             linked,
             held: LaneSet::none(),
@@ -205,7 +200,6 @@ impl FlowLanes {
         ensures same { Same (hands_of self.old) (hands_of self.new) }
         ensures held { is_some (stint_in (hands_of self.new) lane) ≡ result }
         ensures elsewhere { (j : ℕ) → j ≢ lane → is_some (stint_in (hands_of self.new) j) ≡ is_some (stint_in (hands_of self.old) j) }
-        ensures shown { NoneHidden (hands_of self.old) → NoneHidden (hands_of self.new) }
     {
         if self.stints[lane].is_some() {
             return true;
@@ -234,7 +228,6 @@ impl FlowLanes {
         ensures lists { Brings lane (hands_of self.old) into.old.items (hands_of self.new) into.new.items }
         ensures few { length into.new.items ≤ most }
         ensures entries { (j : ℕ) → is_some (stint_in (hands_of self.new) j) ≡ is_some (stint_in (hands_of self.old) j) }
-        ensures shown { NoneHidden (hands_of self.old) → NoneHidden (hands_of self.new) }
     {
         let Some(stint) = &mut self.stints[lane] else {
             return;
@@ -254,7 +247,8 @@ impl FlowLanes {
         }
     }
 
-    /// Answers the oldest delivery that is held of the lane, or adds an event beside it. The scheduler sees it after the next `flush`.
+    /// Answers the oldest delivery that is held of the lane, or adds an event beside it.
+    #[inline(always)]
     pub(crate) fn answer(&mut self, lane: usize, event: &PackedEvent) -> Result<(), Refusal>
         requires exists { lane < length (lanes_of (flow_site self.old).claims) }
         requires held { held_on (hands_of self.old) lane ≢ [] }
@@ -265,69 +259,16 @@ impl FlowLanes {
         ensures entries { (j : ℕ) → is_some (stint_in (hands_of self.new) j) ≡ is_some (stint_in (hands_of self.old) j) }
         ensures refused { IfErr result (λ e. (e ≡ Refusal.Full) × IsFilledBy (stint_in (hands_of self.new) lane)) }
     {
-        self.turn_to(lane);
         let Some(stint) = &mut self.stints[lane] else {
             return Err(Refusal::NothingHeld);
         };
-        stint.stage(event)
+        stint.submit(event)
     }
 
     /// Answers the oldest delivery that is held of the lane by an answer, and gives the lane back where nothing more of it is
-    /// unanswered. An answer to its last delivery goes into the ring at once; any other the scheduler sees after the next `flush`.
+    /// unanswered.
     #[inline(always)]
     pub(crate) fn answer_oldest(&mut self, lane: usize, event: &PackedEvent) -> Result<(), Refusal>
-        requires exists { lane < length (lanes_of (flow_site self.old).claims) }
-        requires held { held_on (hands_of self.old) lane ≢ [] }
-        requires answer { is_answer (reply_of event.now) ≡ true }
-        ensures site { flow_site self.new ≡ flow_site self.old }
-        ensures asks { AsksNone (hands_of self.old).view (hands_of self.new).view }
-        ensures lists { MatchResult result (λ _. Says lane (reply_of event.now) (hands_of self.old) (hands_of self.new)) (λ _. Same (hands_of self.old) (hands_of self.new)) }
-        ensures idle { AreIdle (hands_of self.old) → AreIdle (hands_of self.new) }
-        ensures refused { IfErr result (λ e. (e ≡ Refusal.Full) × IsFilledBy (stint_in (hands_of self.new) lane)) }
-    {
-        if !self.holds_last(lane) {
-            return self.answer_more(lane, event);
-        }
-        self.put_last(lane, event)?;
-        self.give_back(lane);
-        Ok(())
-    }
-
-    // Whether just one delivery is held of the lane, and nothing is gathered for it.
-    #[inline(always)]
-    fn holds_last(&self, lane: usize) -> bool
-        requires { lane < length (lanes_of (flow_site self.now).claims) }
-        ensures { result ≡ true → HoldsLast (stint_in (hands_of self.now) lane) }
-    {
-        match &self.stints[lane] {
-            Some(stint) => stint.far.holds_last(),
-            None => false,
-        }
-    }
-
-    // Answers the only delivery that is held of the lane into the ring.
-    #[inline(always)]
-    fn put_last(&mut self, lane: usize, event: &PackedEvent) -> Result<(), Refusal>
-        requires exists { lane < length (lanes_of (flow_site self.old).claims) }
-        requires last { HoldsLast (stint_in (hands_of self.old) lane) }
-        requires answer { is_answer (reply_of event.now) ≡ true }
-        ensures site { flow_site self.new ≡ flow_site self.old }
-        ensures seat { (hands_of self.new).view ≡ (hands_of self.old).view }
-        ensures lists { MatchResult result (λ _. Says lane (reply_of event.now) (hands_of self.old) (hands_of self.new)) (λ _. Same (hands_of self.old) (hands_of self.new)) }
-        ensures answered { IsOk result → held_on (hands_of self.new) lane ≡ [] }
-        ensures entries { (j : ℕ) → is_some (stint_in (hands_of self.new) j) ≡ is_some (stint_in (hands_of self.old) j) }
-        ensures shown { hidden_in (stint_in (hands_of self.new) lane) ≡ [] }
-        ensures refused { IfErr result (λ e. (e ≡ Refusal.Full) × IsFilledBy (stint_in (hands_of self.new) lane)) }
-    {
-        let Some(stint) = &mut self.stints[lane] else {
-            unreachable!()
-        };
-        stint.answer_last(event)
-    }
-
-    // Answers one of several deliveries that are held of the lane, or one beside what is gathered for it.
-    #[cold]
-    fn answer_more(&mut self, lane: usize, event: &PackedEvent) -> Result<(), Refusal>
         requires exists { lane < length (lanes_of (flow_site self.old).claims) }
         requires held { held_on (hands_of self.old) lane ≢ [] }
         requires answer { is_answer (reply_of event.now) ≡ true }
@@ -342,40 +283,8 @@ impl FlowLanes {
         Ok(())
     }
 
-    // What was answered to another lane is flushed, so that there is one at most to be flushed.
-    fn turn_to(&mut self, lane: usize)
-        ensures site { flow_site self.new ≡ flow_site self.old }
-        ensures seat { (hands_of self.new).view ≡ (hands_of self.old).view }
-        ensures flushed { Flushed (hands_of self.old) (hands_of self.new) }
-        ensures touched { touched_of self.new ≡ Some lane }
-    {
-        if self.touched != Some(lane) {
-            self.flush();
-            self.touched = Some(lane);
-        }
-    }
-
-    /// Makes all that was answered visible to the scheduler.
-    pub(crate) fn flush(&mut self)
-        ensures site { flow_site self.new ≡ flow_site self.old }
-        ensures seat { (hands_of self.new).view ≡ (hands_of self.old).view }
-        ensures flushed { Flushed (hands_of self.old) (hands_of self.new) }
-        ensures shown { NoneHidden (hands_of self.new) }
-    {
-        let Some(lane) = self.touched else {
-            return;
-        };
-        self.touched = None;
-        if lane >= self.stints.len() {
-            return;
-        }
-        let Some(stint) = &mut self.stints[lane] else {
-            return;
-        };
-        stint.flush();
-    }
-
     /// Gives the lane back where nothing of it is unanswered.
+    #[inline(always)]
     pub(crate) fn leave(&mut self, lane: usize)
         requires { lane < length (lanes_of (flow_site self.old).claims) }
         ensures site { flow_site self.new ≡ flow_site self.old }
@@ -386,7 +295,6 @@ impl FlowLanes {
         ensures same { Same (hands_of self.old) (hands_of self.new) }
         ensures left { held_on (hands_of self.old) lane ≡ [] → is_some (stint_in (hands_of self.new) lane) ≡ false }
         ensures elsewhere { (j : ℕ) → j ≢ lane → is_some (stint_in (hands_of self.new) j) ≡ is_some (stint_in (hands_of self.old) j) }
-        ensures shown { NoneHidden (hands_of self.old) → NoneHidden (hands_of self.new) }
     {
         let Some(stint) = &mut self.stints[lane] else {
             return;
@@ -394,8 +302,6 @@ impl FlowLanes {
         if stint.far.held() > 0 {
             return;
         }
-        // The next port to hold it may have nothing to flush.
-        stint.flush();
         self.give_back(lane);
     }
 
@@ -412,19 +318,17 @@ impl FlowLanes {
         ensures same { Same (hands_of self.old) (hands_of self.new) }
         ensures left { held_on (hands_of self.old) lane ≡ [] → is_some (stint_in (hands_of self.new) lane) ≡ false }
         ensures elsewhere { (j : ℕ) → j ≢ lane → is_some (stint_in (hands_of self.new) j) ≡ is_some (stint_in (hands_of self.old) j) }
-        ensures shown { NoneHidden (hands_of self.old) → NoneHidden (hands_of self.new) }
     {
         if !some_held {
             self.leave(lane);
         }
     }
 
-    // Gives back the lane, of which nothing is unanswered, and for which nothing is gathered.
+    // Gives back the lane, of which nothing is unanswered.
     #[inline(always)]
     fn give_back(&mut self, lane: usize)
         requires exists { lane < length (lanes_of (flow_site self.old).claims) }
         requires answered { held_on (hands_of self.old) lane ≡ [] }
-        requires shown { hidden_in (stint_in (hands_of self.old) lane) ≡ [] }
         ensures site { flow_site self.new ≡ flow_site self.old }
         ensures linked { linked_of self.new ≡ linked_of self.old }
         ensures others { (j : ℕ) → j ≢ lane → stint_in (hands_of self.new) j ≡ stint_in (hands_of self.old) j }
@@ -432,7 +336,6 @@ impl FlowLanes {
         ensures same { Same (hands_of self.old) (hands_of self.new) }
         ensures left { is_some (stint_in (hands_of self.new) lane) ≡ false }
         ensures elsewhere { (j : ℕ) → j ≢ lane → is_some (stint_in (hands_of self.new) j) ≡ is_some (stint_in (hands_of self.old) j) }
-        ensures shown { NoneHidden (hands_of self.old) → NoneHidden (hands_of self.new) }
     {
         let Some(stint) = self.stints[lane].take() else {
             return;
@@ -444,12 +347,10 @@ impl FlowLanes {
     /// Surrenders the lane, where it is held.
     fn surrender(&mut self, lane: usize)
         requires exists { lane < length (lanes_of (flow_site self.old).claims) }
-        requires shown { NoneHidden (hands_of self.old) }
         ensures site { flow_site self.new ≡ flow_site self.old }
         ensures kept { Kept (hands_of self.old) (hands_of self.new) }
         ensures free { stint_in (hands_of self.new) lane ≡ None }
         ensures elsewhere { (j : ℕ) → j ≢ lane → stint_in (hands_of self.new) j ≡ stint_in (hands_of self.old) j }
-        ensures shown { NoneHidden (hands_of self.new) }
     {
         let Some(stint) = self.stints[lane].take() else {
             return;
@@ -459,7 +360,6 @@ impl FlowLanes {
 
     /// The port's seat, once all lanes that are held were surrendered.
     pub(crate) fn into_seat(mut self) -> ClaimSeat
-        requires { NoneHidden (hands_of self) }
         ensures seat { IsSeatOf (flow_site self).claims result × (port_of result ≡ (flow_site self).port) }
         ensures parts { (seating result).parts ≡ (flow_site self).parts }
         ensures none_open { HoldsNone (seating result) }

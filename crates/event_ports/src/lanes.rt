@@ -9,7 +9,7 @@ ghost use Rattle.event_ports.specs.Flows.{flow_site, hands_of};
 use crate::flows::FlowLanes;
 use crate::held_ring::HeldRing;
 use crate::lane::Lane;
-use evt_types::{Op, PackedEvent};
+use evt_types::{Op, PackedEvent, Reply};
 use flow_claims::ClaimSeat;
 use lane_rings::{Deliveries, Far, Refusal};
 
@@ -36,29 +36,28 @@ impl Lanes {
     ghost use Rattle.evt_types.specs.declared.event.Op.TheVariants as ops;
     ghost use Rattle.evt_types.specs.declared.event.TheConstants.{MAX_EXTRAS};
     ghost use Rattle.event_ports.specs.Lanes.{Rests, Submits, SubmitsTo, Arrives, ArrivesFrom, HasRoomFor, IsEmptyHand, IsEndOf, AreOf, TakesMore, extras_in, first_lane, lane_for, held_of, pair_in, reply_of};
-    ghost use Rattle.event_ports.specs.Handed.{IsReadable, lanes_site, flow_count, links_of, flow_hands, seating_of, seen_own, hand_of, mores_of, news_of, releases_of, CountsOne, CountsNone, IsFilled, RefusesOldest, AllShown, AnswersRow, OwnFirst};
-    ghost use Rattle.lane_rings.specs.Ends.{received_by, answered, hidden_answers, held_list, room_left};
-    ghost use Rattle.evt_types.specs.declared.event.Event.{Event as EventValue};
+    ghost use Rattle.event_ports.specs.Handed.{IsReadable, lanes_site, flow_count, links_of, flow_hands, seating_of, seen_own, hand_of, mores_of, news_of, releases_of, CountsOne, CountsNone, IsFilled, RefusesOldest, AnswersRow, BringsRow, OwnFirst};
+    ghost use Rattle.lane_rings.specs.Ends.{received_by, answered, held_list, room_left};
+    ghost use Rattle.evt_types.specs.declared.event.Reply.{Reply as ReplyValue};
     ghost use Rattle.evt_types.specs.declared.event.Op.{Op};
     ghost use Rattle.flow_claims.specs.Claims.{seating, port_of, IsSeatOf};
     ghost use Rattle.flow_claims.specs.Laws.{IsUnused};
     ghost use Rattle.flow_claims.specs.Seats.{HoldsNone};
     ghost use Rattle.flow_claims.specs.Answers.{AsksNone};
     ghost use Rattle.event_ports.specs.Claiming.{ClaimsEach};
-    ghost use Rattle.event_ports.specs.Holds.{AreDrained, AreEmpty, AreLinked, IsDrained, NoneHidden, stint_in};
+    ghost use Rattle.event_ports.specs.Holds.{AreDrained, AreEmpty, AreLinked, IsDrained, stint_in};
     ghost use Rattle.event_ports.specs.Flows.{linked_of};
     ghost use Rattle.event_ports.specs.declared.lane.Lane.TheVariants as lanes;
 
     /// The lanes of a port that received and answered nothing, and whose order has the room of its own lane's depth.
     pub(crate) fn new(own: Far, flows: FlowLanes, order: HeldRing) -> Lanes
         requires own { IsUnused own }
-        requires flows { AreEmpty (hands_of flows) × NoneHidden (hands_of flows) }
+        requires flows { AreEmpty (hands_of flows) }
         requires order { (order.items ≡ []) × (order.capacity ≡ (far_id own).depth) × (order.capacity ≤ 64) }
         requires noted { order.notes ≡ false → (flow_site flows).links ≡ [] }
         ensures site { lanes_site result ≡ record { own = far_id own; flows = flow_site flows; depth = order.capacity } }
         ensures empty { IsEmptyHand (hand_of result) }
         ensures none { (news_of result ≡ 0) × (mores_of result ≡ 0) × (releases_of result ≡ 0) }
-        ensures shown { AllShown result }
     {
         Lanes { own, flows, order }
     }
@@ -100,7 +99,7 @@ impl Lanes {
     }
 
     /// Submits what costs a credit: a NEW to the port's own lane, and an event that is added beside the oldest delivery that is held to
-    /// the lane from which that came. The scheduler sees it after the next `flush`.
+    /// the lane from which that came.
     #[inline(always)]
     pub(crate) fn submit(&mut self, event: &PackedEvent) -> Result<(), Refusal>
         requires costs { costs_credit event.now.op ≡ true }
@@ -111,7 +110,7 @@ impl Lanes {
         ensures refused { IfErr result (λ e. (e ≡ Refusal.Full) × IsFilled self.new (lane_for event.now.op (hand_of self.new).holding)) }
     {
         match event.op() {
-            Op::New => self.own.stage(event),
+            Op::New => self.own.submit(event),
             _ => self.add(event),
         }
     }
@@ -124,17 +123,14 @@ impl Lanes {
         self.own.known_room()
     }
 
-    /// As `submit`, of a NEW for which there is room.
+    /// As `submit`, of NEWs one after the other, for which there is room: they go into the ring by one store.
     #[inline(always)]
-    pub(crate) fn submit_new(&mut self, event: &PackedEvent)
-        requires new { event.now.op ≡ ops.New }
-        requires room { 0 < room_left self.old.own }
-        ensures site { lanes_site self.new ≡ lanes_site self.old }
-        ensures submitted { SubmitsTo (lane_for event.now.op (hand_of self.old).holding) (reply_of event.now) (hand_of self.old) (hand_of self.new) }
-        ensures counts { CountsOne (reply_of event.now) self.old self.new }
-        ensures room { room_left self.new.own + 1 ≡ room_left self.old.own }
+    pub(crate) fn bring_row(&mut self, replies: &[Reply])
+        requires news { All (λ (r : ReplyValue). is_new_reply r ≡ true) replies.now }
+        requires room { length replies.now ≤ room_left self.old.own }
+        ensures { BringsRow replies.now self.old self.new }
     {
-        self.own.stage_new(event);
+        self.own.bring_row(replies);
     }
 
     // Adds an event beside the oldest delivery that is held.
@@ -150,12 +146,12 @@ impl Lanes {
             return Err(Refusal::NothingHeld);
         };
         match lane {
-            Lane::Own => self.own.stage(event),
+            Lane::Own => self.own.submit(event),
             Lane::Flow(lane) => self.flows.answer(lane, event),
         }
     }
 
-    /// Answers the oldest delivery that is held, to the lane from which it came. The scheduler sees it after the next `flush`.
+    /// Answers the oldest delivery that is held, to the lane from which it came.
     #[inline(always)]
     pub(crate) fn answer(&mut self, event: &PackedEvent) -> Result<(), Refusal>
         requires { is_answer (reply_of event.now) ≡ true }
@@ -169,7 +165,7 @@ impl Lanes {
             return Err(Refusal::NothingHeld);
         };
         match lane {
-            Lane::Own => match self.own.stage(event) {
+            Lane::Own => match self.own.submit(event) {
                 Ok(()) => {
                     self.order.drop_row(1);
                     Ok(())
@@ -201,18 +197,18 @@ impl Lanes {
         most.min(self.own.known_room()).min(held)
     }
 
-    /// Answers so many of the oldest that are held, which came from the own lane. The scheduler sees it after the next `flush`.
+    /// Answers so many of the oldest that are held, which came from the own lane: the answers go into its ring by one store.
     #[inline(always)]
-    pub(crate) fn answer_row(&mut self, events: &[PackedEvent])
-        requires some { 0 < length events.now }
-        requires answers { All (λ (e : EventValue). is_answer (reply_of e) ≡ true) events.now }
-        requires own { All (λ x. x.lane ≡ lanes.Own) (take (length events.now) (hand_of self.old).holding) }
-        requires held { length events.now ≤ length (hand_of self.old).holding }
-        requires room { length events.now ≤ room_left self.old.own }
-        ensures { AnswersRow events.now self.old self.new }
+    pub(crate) fn answer_row(&mut self, replies: &[Reply])
+        requires some { 0 < length replies.now }
+        requires answers { All (λ (r : ReplyValue). is_answer r ≡ true) replies.now }
+        requires own { All (λ x. x.lane ≡ lanes.Own) (take (length replies.now) (hand_of self.old).holding) }
+        requires held { length replies.now ≤ length (hand_of self.old).holding }
+        requires room { length replies.now ≤ room_left self.old.own }
+        ensures { AnswersRow replies.now self.old self.new }
     {
-        self.own.stage_answers(events);
-        self.order.drop_row(events.len());
+        self.own.answer_row(replies);
+        self.order.drop_row(replies.len());
     }
 
     /// Receives at most `max` deliveries, and no more than may be held: from the own lane first, then from the linked flow lanes
@@ -228,7 +224,6 @@ impl Lanes {
         ensures drained { length into.new.items < max → length (hand_of self.new).holding < (lanes_site self.new).depth → seen_own self.new ≡ [] }
         ensures drained_flows { length into.new.items < max → length (hand_of self.new).holding < (lanes_site self.new).depth → AreDrained (flow_hands self.new) }
         ensures own_first { OwnFirst self.old self.new into.new.items }
-        ensures shown { AllShown self.old → AllShown self.new }
     {
         let most = max.min(self.order.capacity() - self.held());
         self.own.receive_some(most, into);
@@ -236,22 +231,8 @@ impl Lanes {
         self.receive_flows(most, into);
     }
 
-    /// Makes all that was submitted and answered visible to the scheduler.
-    pub(crate) fn flush(&mut self)
-        ensures site { lanes_site self.new ≡ lanes_site self.old }
-        ensures seat { seating_of self.new ≡ seating_of self.old }
-        ensures hand { hand_of self.new ≡ hand_of self.old }
-        ensures filled { (o : Op) → IsFilled self.old (lane_for o (hand_of self.old).holding) → IsFilled self.new (lane_for o (hand_of self.new).holding) }
-        ensures shown { AllShown self.new }
-    {
-        self.own.flush();
-        self.flows.flush();
-    }
-
     /// The own end, the port's claim seat once all its flow lanes were surrendered, and what is held.
     pub(crate) fn into_parts(self) -> (Far, ClaimSeat, HeldRing)
-        requires { AllShown self }
-        ensures shown { hidden_answers result.0 ≡ [] }
         ensures own { (far_id result.0 ≡ (lanes_site self).own) × (received_by result.0 ≡ (hand_of self).got lanes.Own) × (answered result.0 ≡ (hand_of self).said lanes.Own) }
         ensures seat { IsSeatOf (lanes_site self).flows.claims result.1 × (port_of result.1 ≡ (lanes_site self).flows.port) }
         ensures parts { (seating result.1).parts ≡ (lanes_site self).flows.parts }
@@ -285,7 +266,6 @@ impl Lanes {
         ensures room { HasRoomFor most (lanes_site self.new).depth (hand_of self.new).holding into.new.items }
         ensures none { length into.old.items ≡ most → into.new.items ≡ into.old.items }
         ensures others { seen_own self.new ≡ seen_own self.old }
-        ensures shown { AllShown self.old → AllShown self.new }
     {
         // A port that notes nothing has no flow lanes.
         if !self.order.notes() {
@@ -321,7 +301,6 @@ impl Lanes {
         ensures room { HasRoomFor most (lanes_site self.new).depth (hand_of self.new).holding into.new.items }
         ensures none { length into.old.items ≡ most → into.new.items ≡ into.old.items }
         ensures others { seen_own self.new ≡ seen_own self.old }
-        ensures shown { AllShown self.old → AllShown self.new }
     {
         if into.len() >= most {
             return;

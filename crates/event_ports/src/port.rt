@@ -4,14 +4,13 @@ ghost use Rattle.std.specs.Prelude.{◌≡◌, ◌≢◌, ℕ, ◌+◌, [], true
 ghost use Rattle.credit_pool.specs.Pockets.{IsPocket};
 ghost use Rattle.event_ports.specs.declared.lane.Lane.TheVariants.{Flow};
 ghost use Rattle.event_ports.specs.Desks.{account_of as account_at, hand as hand_at, holds_flow, mores_by, news_by, pocket_of as pocket_at, releases_by};
-ghost use Rattle.event_ports.specs.Handed.{AllShown};
 ghost use Rattle.event_ports.specs.Lanes.{held_of};
 
 use crate::counts::PortCounts;
 use crate::desk::Desk;
 use arrayvec::ArrayVec;
 use event_answers::{Behind, Refused};
-use evt_types::{Delivery, Event, PackedEvent};
+use evt_types::{Delivery, Event, PackedEvent, Reply};
 use lane_rings::Deliveries;
 
 /// A port of a device: the way of one thread into it and out of it. Between two of its calls all that it enqueued is in the reply
@@ -21,7 +20,6 @@ use lane_rings::Deliveries;
 pub struct Port {
     pub(crate) desk: Desk,
     pub(crate) counts: PortCounts,
-    pub ghost shown: { AllShown desk.lanes },
     pub ghost idle: { (j : ℕ) → held_of (Flow j) (hand_at desk).holding ≡ [] → holds_flow desk j ≡ false },
     pub ghost staffed: { (j : ℕ) → held_of (Flow j) (hand_at desk).holding ≢ [] → holds_flow desk j ≡ true },
     pub ghost paid: { IsPocket (pocket_at desk) ((account_at desk).drawn + releases_by desk) ((account_at desk).returned + news_by desk + mores_by desk) },
@@ -39,6 +37,7 @@ impl Port {
     ghost use Rattle.event_ports.specs.Draws.{HasLooked, ReturnsSpare};
     ghost use Rattle.event_ports.specs.Queues.{AllNameQueues, NamesQueue};
     ghost use Rattle.event_ports.specs.Counts.{after_behind, after_burst, after_dequeue, after_enqueue, plus};
+    ghost use Rattle.event_ports.specs.Desks.{events_of};
     ghost use Rattle.event_ports.specs.Ports.{own_site, account_of, claim_seating, flow_hands, counts_of, pocket_of, hand, seen_by, links, was_filled, SameCredits, Pays, Refuses, released_first, Bursts, StopsAt};
 
     /// The port's number in the device, from 0.
@@ -103,7 +102,6 @@ impl Port {
     {
         let packed = PackedEvent::of(&event);
         let answer = self.desk.submit(&packed);
-        self.desk.flush();
         self.counts.enqueue(&answer);
         answer
     }
@@ -179,7 +177,7 @@ impl Port {
     }
 
     /// Enqueues the events one after the other, each as `enqueue` does, up to the first that is refused: how many were taken, and why
-    /// the next one wasn't. What goes to one lane in a row goes into its ring by one store.
+    /// the next one wasn't. Each goes into its ring by itself.
     pub fn enqueue_burst(&mut self, events: &[Event]) -> (usize, Option<Refused>)
         ensures site { own_site self.new ≡ own_site self.old }
         ensures credit { Stays (account_of self.old) (account_of self.new) }
@@ -192,27 +190,26 @@ impl Port {
         ensures counted { counts_of self.new ≡ after_burst result.0 result.1 (counts_of self.old) }
         ensures taken { (counts_of self.new).enqueued ≡ plus (counts_of self.old).enqueued result.0 }
     {
-        let answer = self.desk.submit_burst(events);
-        self.desk.flush();
+        let answer = self.desk.submit_events(events);
         self.counts.enqueue_burst(answer.0, &answer.1);
         answer
     }
 
-    /// The same of packed events, as they come out of a dequeue: each is copied to where it is gathered, and nowhere before.
-    pub fn enqueue_packed(&mut self, events: &[PackedEvent]) -> (usize, Option<Refused>)
+    /// The same of packed events, as they come out of a dequeue, each in the reply that carries it. What is of one operation and goes to the
+    /// own lane in a row goes into its ring by one store, and is copied there and nowhere before.
+    pub fn enqueue_packed(&mut self, replies: &[Reply]) -> (usize, Option<Refused>)
         ensures site { own_site self.new ≡ own_site self.old }
         ensures credit { Stays (account_of self.old) (account_of self.new) }
-        ensures count { result.0 ≤ length events.now }
-        ensures all { IsNone result.1 ↔ (result.0 ≡ length events.now) }
-        ensures submitted { SubmitsAll (take result.0 events.now) (hand self.old) (hand self.new) }
-        ensures there { AllNameQueues (own_site self.old).queues (take result.0 events.now) }
-        ensures refused { IfSome result.1 (λ e. StopsAt self.old events.now result.0 e self.new) }
-        ensures singly { Bursts self.old events.now result.0 result.1 self.new }
+        ensures count { result.0 ≤ length replies.now }
+        ensures all { IsNone result.1 ↔ (result.0 ≡ length replies.now) }
+        ensures submitted { SubmitsAll (take result.0 (events_of replies.now)) (hand self.old) (hand self.new) }
+        ensures there { AllNameQueues (own_site self.old).queues (take result.0 (events_of replies.now)) }
+        ensures refused { IfSome result.1 (λ e. StopsAt self.old (events_of replies.now) result.0 e self.new) }
+        ensures singly { Bursts self.old (events_of replies.now) result.0 result.1 self.new }
         ensures counted { counts_of self.new ≡ after_burst result.0 result.1 (counts_of self.old) }
         ensures taken { (counts_of self.new).enqueued ≡ plus (counts_of self.old).enqueued result.0 }
     {
-        let answer = self.desk.submit_packed(events);
-        self.desk.flush();
+        let answer = self.desk.submit_burst(replies);
         self.counts.enqueue_burst(answer.0, &answer.1);
         answer
     }

@@ -1,7 +1,6 @@
 //! What is left of a port that was taken apart.
 
 ghost use Rattle.std.specs.Prelude.{◌≡◌, []};
-ghost use Rattle.lane_rings.specs.Ends.{hidden_answers};
 
 use crate::held_ring::HeldRing;
 use credit_pool::CreditSeat;
@@ -18,7 +17,6 @@ pub struct Left {
     /// What is held, in the order of the dequeues.
     pub held: HeldRing,
     pub pocket: u64,
-    pub ghost shown: { hidden_answers own ≡ [] },
 }
 
 /// What is left of a port whose seats were joined to others.
@@ -31,5 +29,4 @@ pub struct Rest {
     /// What is held, in the order of the dequeues.
     pub held: HeldRing,
     pub pocket: u64,
-    pub ghost shown: { hidden_answers own ≡ [] },
 }

@@ -4,7 +4,7 @@ use Rattle.std.specs.List.{range_with_len}
 use Rattle.std.proofs.lemmas.List.Elements.{All-contains, All-weaker}
 use native.Mathlib.Decide.{dec_le}
 use lib.ListN.{get_elem?}
-use Rattle.lane_rings.specs.Ends.{unanswered, hidden_answers}
+use Rattle.lane_rings.specs.Ends.{unanswered}
 use Rattle.lane_rings.specs.declared.far.Far.{Far}
 use Rattle.lists.specs.Counts.{count}
 use Rattle.lists.proofs.SeatSums.{All-at, term_le, terms_le}
@@ -86,8 +86,8 @@ module _ (lanes : List Far) (s : Board) (c : Claimed lanes s) where
       let nobody : busy (word_at s lane) ≡ 0 = ⊎_elim (λ e. busy_free (word_at s lane) e) (λ e. busy_over (word_at s lane) e) free in
       none_found lane v.held (omega (arith, nobody, c.one_holder lane lt, term_le (λ u. opens lane u.held) s.views i v here))
 
-  pub free_at_home : (lane : ℕ) → lane < length lanes → word_at s lane % 256 ≡ 0 → (far : Far) × IsAtHome lanes s lane far × (unanswered far ≡ []) × (hidden_answers far ≡ [])
-  free_at_home lane lt free = let at = (c.each_lane lane lt).free free in (at.0, (at.1.0, at.1.1), at.2, at.1.3)
+  pub free_at_home : (lane : ℕ) → lane < length lanes → word_at s lane % 256 ≡ 0 → (far : Far) × IsAtHome lanes s lane far × (unanswered far ≡ [])
+  free_at_home lane lt free = let at = (c.each_lane lane lt).free free in (at.0, (at.1.0, at.1.1), at.2)
 
   pub over_by : (lane : ℕ) → lane < length lanes → word_at s lane % 256 ≡ 255 → WasClosed s lane ⊎ WasSurrendered lanes s lane
   over_by lane lt over = ⊎_elim (λ some. inl (closed some)) (λ at. inr (surrendered at.0 (at.1.0, at.1.1) at.2)) ((c.each_lane lane lt).over over)

@@ -47,7 +47,6 @@ taken slots lane port word found m a b result far begins same free slot stays is
       stays ∙ got.1 ∙ (λ i. after_begin (begun_by (p i) lane (k i) got.0) (after_look lane (w i) m.0)),
       got.3,
       got.4,
-      got.5,
     )
 
 goes_on_itself : (l : LaneLists) → GoesOn l l

@@ -8,7 +8,7 @@ use lib.ListN.{get_elem?}
 use prog.Atomic.{either}
 use Rattle.atomic_table.specs.Table.{step, Act, keeps, takes, gives, Valid, homes_after, carried_after, stepped, Allows}
 use Rattle.atomic_table.proofs.Lists.{exchanged}
-use Rattle.lane_rings.specs.Ends.{unanswered, hidden_answers}
+use Rattle.lane_rings.specs.Ends.{unanswered}
 use Rattle.lane_rings.specs.declared.far.Far.{Far}
 use Rattle.lists.specs.Counts.{count}
 use Rattle.std.proofs.lemmas.List.Sums.{sum_by-append}
@@ -175,7 +175,7 @@ begins lanes slots id lane port old me part lanes_are small lt free s c count_is
       takes lane (Some far),
       found.1.0,
       subst Kept (omega (arith, e, same_port)) kept,
-      ((λ _. (far, refl, refl, subst Of (sym lanes_are) found.1.1, found.2, found.1.3)), (λ ne. absurd (ne e)), reads lanes s id v c here lane lt),
+      ((λ _. (far, refl, refl, subst Of (sym lanes_are) found.1.1, found.2)), (λ ne. absurd (ne e)), reads lanes s id v c here lane lt),
     ))
     (λ ne.
     let w : Seating = after_look lane word v in (
@@ -208,10 +208,10 @@ holding lanes s id lane v b bs c here held_is lane_is lt =
     }
 
 finish_follows : (lanes : List Far) (s : Board) (id lane tail : ℕ) (gone : Bool) (v : Seating) (b : Begun) (bs : List Begun) (far : Far) → (c : Claimed lanes s) → get_elem? s.views id ≡ O.some v → 0 < v.parts
-    → v.held ≡ b ∷ bs → b.lane ≡ lane → lane < length lanes → GoesOn b.start (lists_of far) → IsOf lanes lane far → hidden_answers far ≡ [] → ((tail ≡ 0) × (unanswered far ≡ [])) ⊎ (tail ≡ 255)
+    → v.held ≡ b ∷ bs → b.lane ≡ lane → lane < length lanes → GoesOn b.start (lists_of far) → IsOf lanes lane far → ((tail ≡ 0) × (unanswered far ≡ [])) ⊎ (tail ≡ 255)
     → Holding lanes s c.past lane b bs → (gone ≡ true → tail ≡ 255) → (tail ≡ 255 → gone ≡ true)
     → MayFollow lanes s c.past id lane (256 * (b.number + 1) + tail) (O.some (Some far)) v (record v { held = bs; finished = v.finished ++ past_of gone b far ∷ [] }) (past_of gone b far ∷ [])
-finish_follows lanes s id lane tail gone v b bs far c here part held_is lane_is lt goes_on of_lane shown how holds gone_is over_is =
+finish_follows lanes s id lane tail gone v b bs far c here part held_is lane_is lt goes_on of_lane how holds gone_is over_is =
     let word : ℕ = word_at s lane in
     let n : ℕ = 256 * (b.number + 1) + tail in
     let p : Past = past_of gone b far in
@@ -223,7 +223,7 @@ finish_follows lanes s id lane tail gone v b bs far c here part held_is lane_is 
     let number_is : b.number ≡ length (c.past lane) = omega (arith, is.counted, holds.held.claimed, holds.held.of_port) in
     let tail_of : n % 256 ≡ tail = omega (arith, small) in
     let free_now : busy n ≡ 0 = ⊎_elim (λ h. busy_free n (omega (arith, h))) (λ h. busy_over n (omega (arith, h))) tail_is in
-    let home : IsHome lanes lane (O.some (O.some (Some far))) mine far = (refl, of_lane, sym (last_more no_lists (c.past lane) p), shown) in
+    let home : IsHome lanes lane (O.some (O.some (Some far))) mine far = (refl, of_lane, sym (last_more no_lists (c.past lane) p)) in
     let others : All (λ x. x.lane ≢ lane) bs = none_of_lane lane bs holds.alone in
     let in_held : All (Contains v.held) bs = All-tail (Contains v.held) b bs (subst (All (Contains v.held)) held_is (All-contains_itself v.held)) in
     let not_over : word % 256 ≡ 255 → ⊥ = λ e. omega (arith, e, holds.held.claimed, holds.held.of_port) in
@@ -259,9 +259,9 @@ finish_follows lanes s id lane tail gone v b bs far c here part held_is lane_is 
 
 pub finishes : (lanes : List Far) (slots id lane number tail : ℕ) (me : Sitting) (b : Begun) (bs : List Begun) (far : Far) → 0 < me.0.parts
     → me.0.held ≡ b ∷ bs → me.1 ≡ (lane, Some far) ∷ map slot_of bs → b.lane ≡ lane → b.number ≡ number → lane < length lanes
-    → GoesOn b.start (lists_of far) → IsOf lanes lane far → hidden_answers far ≡ [] → ((tail ≡ 0) × (unanswered far ≡ [])) ⊎ (tail ≡ 255)
+    → GoesOn b.start (lists_of far) → IsOf lanes lane far → ((tail ≡ 0) × (unanswered far ≡ [])) ⊎ (tail ≡ 255)
     → Allows (Claimed lanes) slots id me lane (λ _. 256 * (number + 1) + tail) (λ _. Finishes (step slots lane (256 * (number + 1) + tail) 0 O.none) me (256 * (number + 1) + tail))
-finishes lanes slots id lane number tail me b bs far part held_is slots_is lane_is number_is lt goes_on of_lane shown how s c count_is here fits =
+finishes lanes slots id lane number tail me b bs far part held_is slots_is lane_is number_is lt goes_on of_lane how s c count_is here fits =
     let v : Seating = me.0 in
     let gone : Bool = eqb ((256 * (number + 1) + tail) % 256) 255 in
     let gone_is : gone ≡ true → tail ≡ 255 = λ e. ⊎_elim (λ h. absurd (omega (arith, eqb-true ((256 * (number + 1) + tail) % 256) 255 e, h.0))) (λ h. h) how in
@@ -270,7 +270,7 @@ finishes lanes slots id lane number tail me b bs far part held_is slots_is lane_
     let w : Seating = record v { held = bs; finished = v.finished ++ past_of gone b far ∷ [] } in
     let kept : Claimed lanes (record { words = set s.words lane (256 * (b.number + 1) + tail); homes = set s.homes lane (O.some (Some far)); views = set s.views id w }) =
     moved lanes s id lane (256 * (b.number + 1) + tail) (O.some (Some far)) v w (past_of gone b far ∷ []) c here lt
-    (finish_follows lanes s id lane tail gone v b bs far c here part held_is lane_is lt goes_on of_lane shown how holds gone_is over_is) in
+    (finish_follows lanes s id lane tail gone v b bs far c here part held_is lane_is lt goes_on of_lane how holds gone_is over_is) in
     let Words : ℕ → Type 0 = λ k. Claimed lanes (record { words = set s.words lane (256 * (k + 1) + tail); homes = set s.homes lane (O.some (Some far)); views = set s.views id w }) in
     let Homes : List (O.Option (Option Far)) → Type 0 = λ hs. Claimed lanes (record { words = set s.words lane (256 * (number + 1) + tail); homes = hs; views = set s.views id w }) in
     let ends : ends_first gone v.held (in_hand me.1) v ≡ w = ap (λ (o : List Begun). ends_first gone o (in_hand me.1) v) held_is ∙ ap (λ (x : List (ℕ × Option Far)). ends_first gone (b ∷ bs) (in_hand x) v) slots_is in (

@@ -55,7 +55,7 @@ starts lanes fresh =
             closed = λ some. absurd (omega (arith, some, not_below lane 0 (omega arith)));
             final = λ k d lt. absurd (omega (arith, lt));
             surrendered = λ k d lt. absurd (omega (arith, lt));
-            free = λ z. (at.far, (at.home, at.of_lane, fresh_lists at.far at.fresh, at.fresh.2), fresh_answered at.far at.fresh);
+            free = λ z. (at.far, (at.home, at.of_lane, fresh_lists at.far at.fresh), fresh_answered at.far at.fresh);
             over = λ z. absurd (omega (arith, z, word lane lt));
           };
       each_seat = All-cons (IsSeat lanes words (map O.some (map Some lanes)) (λ lane. [])) (first_seating lanes) []

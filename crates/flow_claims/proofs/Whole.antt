@@ -59,7 +59,6 @@ end_is lanes s id lane v far c here whole lt home =
     λ f. sym (all_finished lanes s id v c here whole (at_lane lane f)) ∙ c.weighed lane f lt in
     record {
       of_lane = home.1;
-      shown = home.3;
       past = past;
       recorded = is.recorded;
       lists = home.2;

@@ -2,7 +2,7 @@
 -- read, and leaves all stints.
 use Rattle.std.specs.Prelude.{◌≡◌, ◌≢◌, ℕ, ◌+◌, ◌*◌, ◌/◌, ◌%◌, ◌≤◌, Bool, List, [], ◌∷◌, ◌++◌, All}
 use Rattle.std.specs.Prelude.Option.{None}
-use Rattle.lane_rings.specs.Ends.{unanswered, hidden_answers}
+use Rattle.lane_rings.specs.Ends.{unanswered}
 use Rattle.lane_rings.specs.declared.far.Far.{Far}
 use Rattle.flow_claims.specs.declared.claim.Claim.{Claim}
 use Rattle.flow_claims.specs.declared.claim.Claim.TheVariants.{WornOut, Busy, Raced, Held}
@@ -32,10 +32,10 @@ pub record AsksOnce (lane : ℕ) (v after : Seating) : Type 0 where
   pub loads : after.loads ≡ v.loads ++ lane ∷ []
   pub reads : after.reads ≤ v.reads + 2
 
--- the port holds the lane, with the lane's end, of which nothing is unanswered or gathered
+-- the port holds the lane, with the lane's end, of which nothing is unanswered
 abbrev pub Taken : ℕ → ℕ → ℕ → Far → Seating → Seating → Type 0
 Taken port lane number far v after =
-    (after ≡ after_begin (begun_by port lane number far) (after_look lane (256 * number) v)) × IsOf v.lanes lane far × (unanswered far ≡ []) × (hidden_answers far ≡ [])
+    (after ≡ after_begin (begun_by port lane number far) (after_look lane (256 * number) v)) × IsOf v.lanes lane far × (unanswered far ≡ [])
 
 -- The port asked for the lane.
 abbrev pub AnswersClaim : ℕ → ℕ → Seating → Claim → Seating → Type 0

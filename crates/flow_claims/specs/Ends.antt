@@ -3,7 +3,7 @@ use Rattle.std.specs.Prelude.{◌≡◌, ℕ, List, [], length, slice_get, true,
 use Rattle.std.specs.Prelude.Option.{Some}
 use Rattle.evt_types.specs.declared.event.Delivery.{Delivery}
 use Rattle.evt_types.specs.declared.event.Reply.{Reply}
-use Rattle.lane_rings.specs.Ends.{received_by, answered, unanswered, hidden_answers}
+use Rattle.lane_rings.specs.Ends.{received_by, answered, unanswered}
 use Rattle.lane_rings.specs.declared.far.Far.{Far}
 use Rattle.flow_claims.specs.declared.seating.Past.{Past}
 use Rattle.flow_claims.specs.Lists.{lists_of, no_lists, IsOf}
@@ -13,8 +13,6 @@ use Rattle.flow_claims.specs.Stints.{last_end, IsDone, IsFinal, IsRecordFrom, at
 -- The record is all of the finished stints that are the lane's.
 pub record IsEnd (lanes : List Far) (finished : List Past) (lane : ℕ) (far : Far) : Type 0 where
   pub of_lane : IsOf lanes lane far
-  -- all that was answered went into the ring
-  pub shown : hidden_answers far ≡ []
   pub past : List Past
   pub recorded : IsRecordFrom lane 0 no_lists past
   pub lists : lists_of far ≡ last_end no_lists past

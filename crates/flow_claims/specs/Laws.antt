@@ -4,7 +4,7 @@ use Rattle.std.specs.Prelude.Option.{Some, None}
 use mathlib.Core.Option as O
 use lib.ListN.{get_elem?}
 use Rattle.atomic_table.specs.Table.{opening}
-use Rattle.lane_rings.specs.Ends.{received_by, answered, hidden_answers}
+use Rattle.lane_rings.specs.Ends.{received_by, answered}
 use Rattle.lane_rings.specs.declared.far.Far.{Far}
 use Rattle.flow_claims.specs.declared.seating.Begun.{Begun}
 use Rattle.flow_claims.specs.declared.seating.Past.{Past}
@@ -21,7 +21,7 @@ first_board lanes = opening (replicate (length lanes + 1) 0) (map Some lanes) (f
 
 -- nothing was received or answered at the end
 abbrev pub IsUnused : Far → Type 0
-IsUnused far = (received_by far ≡ []) × (answered far ≡ []) × (hidden_answers far ≡ [])
+IsUnused far = (received_by far ≡ []) × (answered far ≡ [])
 
 -- the seat of that number knows this
 abbrev pub Sits : Board → ℕ → Seating → Type 0

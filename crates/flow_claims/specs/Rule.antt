@@ -6,7 +6,7 @@ use Rattle.std.specs.Prelude.Option.{Some}
 use mathlib.Core.Option as O
 use lib.ListN.{get_elem?}
 use Rattle.atomic_table.specs.Table.{State}
-use Rattle.lane_rings.specs.Ends.{unanswered, hidden_answers}
+use Rattle.lane_rings.specs.Ends.{unanswered}
 use Rattle.lane_rings.specs.declared.far.Far.{Far}
 use Rattle.lists.specs.Counts.{count}
 use Rattle.flow_claims.specs.declared.seating.Begun.{Begun}
@@ -41,9 +41,9 @@ opens lane bs = sum_by (λ b. count (b.lane == lane)) bs
 abbrev pub closed_by : ℕ → Seating → ℕ
 closed_by lane v = below lane v.closed
 
--- the lane's end is at home with nothing gathered, and its lists are those with which the last stint of its record ended
+-- the lane's end is at home, and its lists are those with which the last stint of its record ended
 abbrev pub IsHome : List Far → ℕ → Home → List Past → Far → Type 0
-IsHome lanes lane home past far = (home ≡ O.some (O.some (Some far))) × IsOf lanes lane far × (lists_of far ≡ last_end no_lists past) × (hidden_answers far ≡ [])
+IsHome lanes lane home past far = (home ≡ O.some (O.some (Some far))) × IsOf lanes lane far × (lists_of far ≡ last_end no_lists past)
 
 -- a lane, with its word, its slot, how many seats closed it, and its record
 pub record IsLane (lanes : List Far) (lane word : ℕ) (home : Home) (closers : ℕ) (past : List Past) : Type 0 where

@@ -2,7 +2,7 @@
 use Rattle.std.specs.Prelude.{◌≡◌, ◌≢◌, ℕ, ◌+◌, ◌-◌, ◌*◌, ◌/◌, ◌%◌, ◌<◌, ◌≤◌, ◌==◌, Bool, List, [], ◌∷◌, ◌++◌, map, Option}
 use Rattle.std.specs.Prelude.Option.{Some, None}
 use Rattle.atomic_table.specs.Table.{Me, Step, rest}
-use Rattle.lane_rings.specs.Ends.{unanswered, hidden_answers}
+use Rattle.lane_rings.specs.Ends.{unanswered}
 use Rattle.lane_rings.specs.declared.far.Far.{Far}
 use Rattle.flow_claims.specs.declared.seating.Begun.{Begun}
 use Rattle.flow_claims.specs.declared.seating.Seating.{Seating}
@@ -35,7 +35,7 @@ abbrev pub Begins : WordStep → Sitting → ℕ → Sitting → Type 0
 Begins st m word n =
     (word ≡ st.first → (far : Far)
     × (n.0 ≡ after_begin (begun_by (st.second - st.first - 1) st.word (word / 256) far) (after_look st.word word m.0))
-    × (n.1 ≡ (st.word, Some far) ∷ m.1) × IsOf m.0.lanes st.word far × (unanswered far ≡ []) × (hidden_answers far ≡ []))
+    × (n.1 ≡ (st.word, Some far) ∷ m.1) × IsOf m.0.lanes st.word far × (unanswered far ≡ []))
     × (word ≢ st.first → (n.0 ≡ after_look st.word word m.0) × (n.1 ≡ m.1))
     × Reads st.word word m.0
 

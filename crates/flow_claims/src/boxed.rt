@@ -1,7 +1,7 @@
 //! A lane's end in a block of its own.
 
 ghost use Rattle.std.specs.Prelude.{◌≡◌, ◌↔◌, ◌<◌, ◌≤◌, false, [], length, IsTrue, IfOk, IfErr};
-ghost use Rattle.lane_rings.specs.Ends.{received_by, seen_deliveries, answered, answers_among, hidden_answers, unanswered};
+ghost use Rattle.lane_rings.specs.Ends.{received_by, seen_deliveries, answered, answers_among, unanswered};
 ghost use Rattle.lane_rings.specs.Identity.{far_id};
 
 use lane_rings::Far;
@@ -58,14 +58,6 @@ impl BoxedFar {
         ensures fewer { answers_among (answered self.now) ≤ length (received_by self.now) }
     {
         self.end.held()
-    }
-
-    /// `Far::holds_last` of the end.
-    #[inline(always)]
-    pub fn holds_last(&self) -> bool
-        ensures { IsTrue result ↔ ((length (unanswered self.now) ≡ 1) × (hidden_answers self.now ≡ [])) }
-    {
-        self.end.holds_last()
     }
 
     /// `Far::is_full` of the end.

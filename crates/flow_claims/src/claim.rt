@@ -33,11 +33,11 @@ impl Stint {
     ghost use Rattle.std.specs.Prelude.{◌≡◌, ◌<◌, ◌≤◌, ◌↔◌, true, [], ◌∷◌, ◌++◌, length, IsFalse, MatchOption, MatchResult};
     ghost use Rattle.evt_types.specs.Additions.{AreBeside, extras_of};
     ghost use Rattle.evt_types.specs.Operation.{is_answer};
-    ghost use Rattle.lane_rings.specs.Ends.{received_by, answered, unanswered, hidden_answers, seen_deliveries, Comes};
+    ghost use Rattle.lane_rings.specs.Ends.{received_by, answered, unanswered, seen_deliveries, Comes};
     ghost use Rattle.lane_rings.specs.Identity.{far_id};
     ghost use Rattle.flow_claims.specs.declared.seating.Seating.{Seating};
     ghost use Rattle.lane_rings.specs.Refusal.{reply_of};
-    ghost use Rattle.flow_claims.specs.Holder.{Receives, AnswersWith, GathersWith, AnswersLast};
+    ghost use Rattle.flow_claims.specs.Holder.{Receives, AnswersWith, SubmitsWith};
     ghost use Rattle.flow_claims.specs.Open.{IsOpen, received_so_far, answered_so_far};
 
     /// `Far::receive` of the lane's end. The stint stays open in the seat that has it.
@@ -58,7 +58,7 @@ impl Stint {
     /// `Far::receive_some` of the lane's end. The stint stays open in the seat that has it.
     pub fn receive_some(&mut self, most: usize, into: &mut Deliveries)
         requires { most ≤ 64 }
-        ensures far { (far_id self.new.far ≡ far_id self.old.far) × (answered self.new.far ≡ answered self.old.far) × (hidden_answers self.new.far ≡ hidden_answers self.old.far) }
+        ensures far { (far_id self.new.far ≡ far_id self.old.far) × (answered self.new.far ≡ answered self.old.far) }
         ensures came { Comes self.old.far into.old.items self.new.far into.new.items }
         ensures few { length into.old.items ≤ most → length into.new.items ≤ most }
         ensures drained { length into.new.items < most → length (unanswered self.new.far) < (far_id self.new.far).depth → seen_deliveries self.new.far ≡ [] }
@@ -76,7 +76,7 @@ impl Stint {
     pub fn receive_waiting(&mut self, most: usize, into: &mut Deliveries) -> bool
         requires most { most ≤ 64 }
         requires room { length into.old.items < most }
-        ensures far { (far_id self.new.far ≡ far_id self.old.far) × (answered self.new.far ≡ answered self.old.far) × (hidden_answers self.new.far ≡ hidden_answers self.old.far) }
+        ensures far { (far_id self.new.far ≡ far_id self.old.far) × (answered self.new.far ≡ answered self.old.far) }
         ensures came { Comes self.old.far into.old.items self.new.far into.new.items }
         ensures few { length into.new.items ≤ most }
         ensures drained { length into.new.items < most → length (unanswered self.new.far) < (far_id self.new.far).depth → seen_deliveries self.new.far ≡ [] }
@@ -93,7 +93,6 @@ impl Stint {
     /// `Far::answer` of the lane's end. The stint stays open in the seat that has it.
     pub fn answer(&mut self, reply: Reply) -> Result<(), AnswerFault>
         ensures far { AnswersWith self.old.far reply result self.new.far }
-        ensures shown { hidden_answers self.new.far ≡ [] }
         ensures lane { (self.new.lane ≡ self.old.lane) × (self.new.number ≡ self.old.number) }
         ensures open { (v : Seating) → IsOpen v self.old → IsOpen v self.new }
         ensures so_far { (v : Seating) → IsOpen v self.old → MatchResult result
@@ -105,27 +104,10 @@ impl Stint {
         far.end.answer(reply)
     }
 
-    /// `Far::stage` of the lane's end. The stint stays open in the seat that has it.
-    pub fn stage(&mut self, event: &PackedEvent) -> Result<(), Refusal>
-        ensures far { GathersWith self.old.far (reply_of event.now) result self.new.far }
-        ensures lane { (self.new.lane ≡ self.old.lane) × (self.new.number ≡ self.old.number) }
-        ensures open { (v : Seating) → IsOpen v self.old → IsOpen v self.new }
-        ensures so_far { (v : Seating) → IsOpen v self.old → MatchResult result
-            (λ _. answered_so_far v self.new ≡ answered_so_far v self.old ++ reply_of event.now ∷ [])
-            (λ _. answered_so_far v self.new ≡ answered_so_far v self.old) }
-        ensures received { (v : Seating) → received_so_far v self.new ≡ received_so_far v self.old }
-    {
-        let far = &mut self.far;
-        far.end.stage(event)
-    }
-
-    /// `Far::answer_last` of the lane's end. The stint stays open in the seat that has it.
+    /// `Far::submit` of the lane's end. The stint stays open in the seat that has it.
     #[inline(always)]
-    pub fn answer_last(&mut self, event: &PackedEvent) -> Result<(), Refusal>
-        requires answer { is_answer (reply_of event.now) ≡ true }
-        requires last { length (unanswered self.old.far) ≡ 1 }
-        requires flushed { hidden_answers self.old.far ≡ [] }
-        ensures far { AnswersLast self.old.far (reply_of event.now) result self.new.far }
+    pub fn submit(&mut self, event: &PackedEvent) -> Result<(), Refusal>
+        ensures far { SubmitsWith self.old.far (reply_of event.now) result self.new.far }
         ensures lane { (self.new.lane ≡ self.old.lane) × (self.new.number ≡ self.old.number) }
         ensures open { (v : Seating) → IsOpen v self.old → IsOpen v self.new }
         ensures so_far { (v : Seating) → IsOpen v self.old → MatchResult result
@@ -134,19 +116,7 @@ impl Stint {
         ensures received { (v : Seating) → received_so_far v self.new ≡ received_so_far v self.old }
     {
         let far = &mut self.far;
-        far.end.answer_last(event)
-    }
-
-    /// `Far::flush` of the lane's end. The stint stays open in the seat that has it.
-    pub fn flush(&mut self)
-        ensures far { (far_id self.new.far ≡ far_id self.old.far) × (answered self.new.far ≡ answered self.old.far) × (unanswered self.new.far ≡ unanswered self.old.far) }
-        ensures shown { hidden_answers self.new.far ≡ [] }
-        ensures lane { (self.new.lane ≡ self.old.lane) × (self.new.number ≡ self.old.number) }
-        ensures open { (v : Seating) → IsOpen v self.old → IsOpen v self.new }
-        ensures so_far { (v : Seating) → (received_so_far v self.new ≡ received_so_far v self.old) × (answered_so_far v self.new ≡ answered_so_far v self.old) }
-    {
-        let far = &mut self.far;
-        far.end.flush();
+        far.end.submit(event)
     }
 
     /// `Far::extras` of the lane's end.

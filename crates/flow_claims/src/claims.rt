@@ -44,7 +44,7 @@ pub struct ClaimSeat {
 }
 
 impl Claims {
-    ghost use Rattle.lane_rings.specs.Ends.{received_by, answered, unanswered, hidden_answers};
+    ghost use Rattle.lane_rings.specs.Ends.{received_by, answered, unanswered};
     ghost use Rattle.lane_rings.specs.Identity.{far_id};
     ghost use Rattle.evt_types.specs.declared.event.Delivery.{Delivery};
     ghost use Rattle.evt_types.specs.declared.event.Reply.{Reply};
@@ -168,25 +168,23 @@ impl Claims {
         }
     }
 
-    /// Ends a stint of whose lane nothing is unanswered, and frees the lane. What was gathered at its end was flushed. It always
+    /// Ends a stint of whose lane nothing is unanswered, and frees the lane. It always
     /// succeeds.
     #[inline(always)]
     pub fn give_back(&self, seat: &mut ClaimSeat, stint: Stint)
         requires seat { IsSeatOf self.now seat.old }
         requires open { IsOpen (seating seat.old) stint }
         requires answered { unanswered stint.far ≡ [] }
-        requires shown { hidden_answers stint.far ≡ [] }
         ensures { EndsStint self.now false stint seat.old seat.new }
     {
         self.end(seat, stint, 0);
     }
 
-    /// Ends a stint, whatever is unanswered; no claim gets the lane any more. What was gathered at its end was flushed. It always
+    /// Ends a stint, whatever is unanswered; no claim gets the lane any more. It always
     /// succeeds.
     pub fn surrender(&self, seat: &mut ClaimSeat, stint: Stint)
         requires seat { IsSeatOf self.now seat.old }
         requires open { IsOpen (seating seat.old) stint }
-        requires shown { hidden_answers stint.far ≡ [] }
         ensures { EndsStint self.now true stint seat.old seat.new }
     {
         self.end(seat, stint, SURRENDERED);
@@ -249,7 +247,6 @@ impl Claims {
     fn end(&self, seat: &mut ClaimSeat, stint: Stint, tail: u64)
         requires seat { IsSeatOf self.now seat.old }
         requires open { IsOpen (seating seat.old) stint }
-        requires shown { hidden_answers stint.far ≡ [] }
         requires tail { ((tail ≡ 0) × (unanswered stint.far ≡ [])) ⊎ (tail ≡ 255) }
         ensures { EndsStint self.now (tail == 255) stint seat.old seat.new }
     {

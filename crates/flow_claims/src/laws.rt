@@ -2,7 +2,7 @@
 
 ghost use Rattle.std.specs.Prelude.{◌≡◌, ◌≢◌, ℕ, ◌+◌, ◌*◌, ◌/◌, ◌%◌, ◌<◌, ◌≤◌, ◌⊎◌, Bool, List, [], ◌∷◌, ◌++◌, length, slice_set, All, Contains, sum_by};
 ghost use Rattle.std.specs.List.{range_with_len};
-ghost use Rattle.lane_rings.specs.Ends.{unanswered, hidden_answers};
+ghost use Rattle.lane_rings.specs.Ends.{unanswered};
 ghost use Rattle.lane_rings.specs.declared.far.Far.{Far};
 ghost use Rattle.flow_claims.specs.declared.seating.Begun.{Begun};
 ghost use Rattle.flow_claims.specs.declared.seating.Past.{Past};
@@ -32,10 +32,10 @@ pub fn a_lane_has_one_holder()
     ensures none { (lanes : List Far) (s : Board) (lane i : ℕ) (v : Seating) → Claimed lanes s → lane < length lanes → (word_at s lane % 256 ≡ 0) ⊎ (word_at s lane % 256 ≡ 255) → Sits s i v → stint_at v lane ≡ None }
 {}
 
-/// The end of a free lane is at home, with nothing unanswered or gathered. A lane is over only where a seat closed it, or where a finished stint
-/// surrendered it, and then its end is at home.
+/// The end of a free lane is at home, with nothing unanswered. A lane is over only where a seat closed it, or where a finished stint surrendered it,
+/// and then its end is at home.
 pub fn a_lane_at_home_is_settled()
-    ensures free { (lanes : List Far) (s : Board) (lane : ℕ) → Claimed lanes s → lane < length lanes → word_at s lane % 256 ≡ 0 → (far : Far) × IsAtHome lanes s lane far × (unanswered far ≡ []) × (hidden_answers far ≡ []) }
+    ensures free { (lanes : List Far) (s : Board) (lane : ℕ) → Claimed lanes s → lane < length lanes → word_at s lane % 256 ≡ 0 → (far : Far) × IsAtHome lanes s lane far × (unanswered far ≡ []) }
     ensures over { (lanes : List Far) (s : Board) (lane : ℕ) → Claimed lanes s → lane < length lanes → word_at s lane % 256 ≡ 255 → WasClosed s lane ⊎ WasSurrendered lanes s lane }
 {}
 

@@ -1,5 +1,5 @@
--- Several deliveries are answered in a row, and the holder's end after each of the answers, as a value.
-use Rattle.std.proofs.Common.{◌≡◌, ◌∙◌, ◌+◌, ◌<◌, ◌≤◌, ℕ, suc, true, false, cond, All, List, [], ◌∷◌, ◌++◌, length, length-drop, drop, map, append_assoc, append-nil, refl, sym, ap, subst, arith}
+-- Several replies go into the ring in a row, and the holder's end after each of the answers, as a value.
+use Rattle.std.proofs.Common.{◌≡◌, ◌∙◌, ◌+◌, ◌-◌, ◌<◌, ◌≤◌, ℕ, suc, true, false, cond, All, List, [], ◌∷◌, ◌++◌, length, length-drop, drop, map, append_assoc, append-nil, refl, sym, ap, subst, arith}
 use Rattle.std.proofs.lemmas.Grind.{common_steps}
 use Rattle.std.proofs.lemmas.List.{drop-drop, length_push}
 use Rattle.std.proofs.lemmas.List.Elements.{All-cons, All-nil}
@@ -8,7 +8,7 @@ use Rattle.std.proofs.lemmas.Bool.{false≢true}
 use Rattle.evt_types.proofs.Additions.{answers_add_none, beside-append, beside-other, extras-answer, extras-other}
 use Rattle.evt_types.specs.Additions.{AreBeside, extras_of}
 use Rattle.evt_types.specs.Event.{pair_of}
-use Rattle.evt_types.specs.Operation.{is_answer, is_answer_op, is_more_op, is_new_op}
+use Rattle.evt_types.specs.Operation.{is_answer, is_answer_op, is_more_op, is_more_reply, is_new_op, is_new_reply}
 use Rattle.evt_types.specs.declared.event.Event.{Event}
 use Rattle.evt_types.specs.declared.event.Op.{Op}
 use Rattle.evt_types.specs.declared.event.Op.TheVariants as ops
@@ -16,6 +16,7 @@ use Rattle.evt_types.specs.declared.event.Reply.{Reply}
 use Rattle.lane_rings.specs.Ends.{answered, answers_among, received_by, room_left, unanswered}
 use Rattle.lane_rings.specs.Identity.{far_id}
 use Rattle.lane_rings.specs.HeldPairs.{Held, holds}
+use Rattle.rtrb.specs.Fifo.{position_of}
 use Rattle.rtrb.specs.Ring.{sent, SameProducer}
 use Rattle.lane_rings.specs.Outlets.{put_in, room_of}
 use Rattle.lane_rings.specs.Refusal.{reply_of}
@@ -24,66 +25,24 @@ use Rattle.lane_rings.specs.declared.outlet.Outlet.{Outlet}
 use Rattle.lane_rings.proofs.HeldPairs.{answered_held}
 
 -- each of these is an answer
-abbrev pub AllAnswer : List Event → Type 0
-AllAnswer es = All (λ (e : Event). is_answer (reply_of e) ≡ true) es
+abbrev pub AllAnswer : List Reply → Type 0
+AllAnswer rs = All (λ (r : Reply). is_answer r ≡ true) rs
 
-pub first_ends : (e : Event) (es : List Event) → AllAnswer (e ∷ es) → is_answer (reply_of e) ≡ true
-first_ends e es all = all 0 e (omega arith)
+-- each of these is a NEW
+abbrev pub AllNew : List Reply → Type 0
+AllNew rs = All (λ (r : Reply). is_new_reply r ≡ true) rs
 
-pub rest_end : (e : Event) (es : List Event) → AllAnswer (e ∷ es) → AllAnswer es
-rest_end e es all k d lt = all (suc k) d (omega (arith, lt))
+pub first_ends : (r : Reply) (rs : List Reply) → AllAnswer (r ∷ rs) → is_answer r ≡ true
+first_ends r rs all = all 0 r (omega arith)
 
-pub answers_row : (es : List Event) → AllAnswer es → answers_among (map reply_of es) ≡ length es
-answers_row [] all = refl
-answers_row (e ∷ es) all =
-    omega (arith, sum_by-cons (λ (x : Reply). cond (is_answer x) 1 0) (reply_of e) (map reply_of es), ap {B = ℕ} (λ b. cond b 1 0) (first_ends e es all), answers_row es (rest_end e es all))
+pub rest_end : (r : Reply) (rs : List Reply) → AllAnswer (r ∷ rs) → AllAnswer rs
+rest_end r rs all k d lt = all (suc k) d (omega (arith, lt))
 
-one_then : (rs : List Reply) (r : Reply) (more : List Reply) → rs ++ r ∷ more ≡ (rs ++ r ∷ []) ++ more
-one_then rs r more = sym (append_assoc rs (r ∷ []) more)
+pub first_new : (r : Reply) (rs : List Reply) → AllNew (r ∷ rs) → is_new_reply r ≡ true
+first_new r rs all = all 0 r (omega arith)
 
--- nothing is beside the oldest after them
-pub extras_row : (rs : List Reply) (es : List Event) → 0 < length es → AllAnswer es → extras_of (rs ++ map reply_of es) ≡ 0
-extras_row rs [] some all = absurd (omega (arith, some))
-extras_row rs (e ∷ []) some all = extras-answer rs (reply_of e) (first_ends e [] all)
-extras_row rs (e ∷ x ∷ es) some all =
-    ap extras_of (one_then rs (reply_of e) (map reply_of (x ∷ es))) ∙ extras_row (rs ++ reply_of e ∷ []) (x ∷ es) (omega arith) (rest_end e (x ∷ es) all)
-
-pub beside_row : (n : ℕ) (rs : List Reply) (es : List Event) → AllAnswer es → AreBeside n rs → AreBeside n (rs ++ map reply_of es)
-beside_row n rs [] all beside = subst (AreBeside n) (sym (append-nil rs)) beside
-beside_row n rs (e ∷ es) all beside =
-    subst (AreBeside n) (sym (one_then rs (reply_of e) (map reply_of es)))
-    (beside_row n (rs ++ reply_of e ∷ []) es (rest_end e es all) (beside-other n rs (reply_of e) (answers_add_none (reply_of e) (first_ends e es all)) beside))
-
--- the end after them, where these went into the outlet
-module _ (f : Far) (es : List Event) (o : Outlet Reply) (h : Held) (all : AllAnswer es) (some : 0 < length es) (few : length es ≤ length (unanswered f))
-    (put : put_in o ≡ answered f ++ map reply_of es) (skipped : h ≡ holds (drop (length es) f.held.items) f.held.room) where
-  pub count : answers_among (put_in o) ≡ answers_among (answered f) + length es
-  count = omega (arith, ap answers_among put, sum_by-append (λ (x : Reply). cond (is_answer x) 1 0) (answered f) (map reply_of es), answers_row es all)
-
-  pub held : length f.held.items ≡ length (unanswered f)
-  held = omega (arith, f.held_is, length-drop (answers_among (answered f)) (received_by f))
-
-  pub left : length h.items ≡ length (drop (length es) f.held.items)
-  left = ap (λ (x : Held). length x.items) skipped
-
-  abbrev pub after_row : Far
-  after_row = record {
-    deliveries = f.deliveries;
-    replies = o;
-    held = h;
-    extras = 0;
-    held_is = omega (arith, count, held, left, few, length-drop (length es) f.held.items, f.held_is);
-    held_are =
-        ap (λ (x : Held). x.items) skipped
-        ∙ (ap (drop (length es)) f.held_are
-        ∙ (sym (answered_held (answers_among (answered f)) (length es) (received_by f)) ∙ ap (λ n. map pair_of (drop n (received_by f))) (sym count)));
-    held_few = omega (arith, f.held_few, left, length-drop (length es) f.held.items);
-    held_room = omega (arith, f.held_room, ap (λ (x : Held). x.room) skipped);
-    all_received = f.all_received;
-    extras_are = sym (ap extras_of put ∙ extras_row (answered f) es some all);
-    extras_few = omega arith;
-    beside = subst (AreBeside (length (received_by f))) (sym put) (beside_row (length (received_by f)) (answered f) es all f.beside);
-  }
+pub rest_new : (r : Reply) (rs : List Reply) → AllNew (r ∷ rs) → AllNew rs
+rest_new r rs all k d lt = all (suc k) d (omega (arith, lt))
 
 -- a NEW answers nothing and adds nothing
 pub no_answer : (o : Op) → is_new_op o ≡ true → (is_answer_op o ≡ false) × (is_more_op o ≡ false)
@@ -92,14 +51,83 @@ no_answer ops.Forward new = absurd (false≢true new)
 no_answer ops.Release new = absurd (false≢true new)
 no_answer ops.ForwardMore new = absurd (false≢true new)
 
--- the end after a NEW, where it went into the outlet
-module _ (f : Far) (e : Event) (o : Outlet Reply) (new : is_new_op e.op ≡ true) (put : put_in o ≡ answered f ++ reply_of e ∷ []) where
+pub answers_row : (rs : List Reply) → AllAnswer rs → answers_among rs ≡ length rs
+answers_row [] all = refl
+answers_row (r ∷ rs) all =
+    omega (arith, sum_by-cons (λ (x : Reply). cond (is_answer x) 1 0) r rs, ap {B = ℕ} (λ b. cond b 1 0) (first_ends r rs all), answers_row rs (rest_end r rs all))
+
+pub no_answers : (rs : List Reply) → AllNew rs → answers_among rs ≡ 0
+no_answers [] all = refl
+no_answers (r ∷ rs) all =
+    omega (arith, sum_by-cons (λ (x : Reply). cond (is_answer x) 1 0) r rs, ap {B = ℕ} (λ b. cond b 1 0) (no_answer r.event.op (first_new r rs all)).0, no_answers rs (rest_new r rs all))
+
+one_then : (rs : List Reply) (r : Reply) (more : List Reply) → rs ++ r ∷ more ≡ (rs ++ r ∷ []) ++ more
+one_then rs r more = sym (append_assoc rs (r ∷ []) more)
+
+-- nothing is beside the oldest after answers
+pub extras_row : (before rs : List Reply) → 0 < length rs → AllAnswer rs → extras_of (before ++ rs) ≡ 0
+extras_row before [] some all = absurd (omega (arith, some))
+extras_row before (r ∷ []) some all = extras-answer before r (first_ends r [] all)
+extras_row before (r ∷ x ∷ rs) some all = ap extras_of (one_then before r (x ∷ rs)) ∙ extras_row (before ++ r ∷ []) (x ∷ rs) (omega arith) (rest_end r (x ∷ rs) all)
+
+pub beside_row : (n : ℕ) (before rs : List Reply) → AllAnswer rs → AreBeside n before → AreBeside n (before ++ rs)
+beside_row n before [] all beside = subst (AreBeside n) (sym (append-nil before)) beside
+beside_row n before (r ∷ rs) all beside =
+    subst (AreBeside n) (sym (one_then before r rs))
+    (beside_row n (before ++ r ∷ []) rs (rest_end r rs all) (beside-other n before r (answers_add_none r (first_ends r rs all)) beside))
+
+-- and as many as before after NEWs
+pub extras_news : (before rs : List Reply) → AllNew rs → extras_of (before ++ rs) ≡ extras_of before
+extras_news before [] all = ap extras_of (append-nil before)
+extras_news before (r ∷ rs) all =
+    let none = no_answer r.event.op (first_new r rs all) in
+    ap extras_of (one_then before r rs) ∙ (extras_news (before ++ r ∷ []) rs (rest_new r rs all) ∙ extras-other before r none.0 none.1)
+
+pub beside_news : (n : ℕ) (before rs : List Reply) → AllNew rs → AreBeside n before → AreBeside n (before ++ rs)
+beside_news n before [] all beside = subst (AreBeside n) (sym (append-nil before)) beside
+beside_news n before (r ∷ rs) all beside =
+    subst (AreBeside n) (sym (one_then before r rs))
+    (beside_news n (before ++ r ∷ []) rs (rest_new r rs all) (beside-other n before r (no_answer r.event.op (first_new r rs all)).1 beside))
+
+-- the end after answers, where these went into the ring
+module _ (f : Far) (rs : List Reply) (o : Outlet Reply) (h : Held) (all : AllAnswer rs) (some : 0 < length rs) (few : length rs ≤ length (unanswered f))
+    (put : put_in o ≡ answered f ++ rs) (skipped : h ≡ holds (drop (length rs) f.held.items) f.held.room) where
+  pub count : answers_among (put_in o) ≡ answers_among (answered f) + length rs
+  count = omega (arith, ap answers_among put, sum_by-append (λ (x : Reply). cond (is_answer x) 1 0) (answered f) rs, answers_row rs all)
+
+  pub held : length f.held.items ≡ length (unanswered f)
+  held = omega (arith, f.held_is, length-drop (answers_among (answered f)) (received_by f))
+
+  pub left : length h.items ≡ length (drop (length rs) f.held.items)
+  left = ap (λ (x : Held). length x.items) skipped
+
+  abbrev pub after_row : Far
+  after_row = record {
+    deliveries = f.deliveries;
+    replies = o;
+    held = h;
+    extras = 0;
+    held_is = omega (arith, count, held, left, few, length-drop (length rs) f.held.items, f.held_is);
+    held_are =
+        ap (λ (x : Held). x.items) skipped
+        ∙ (ap (drop (length rs)) f.held_are
+        ∙ (sym (answered_held (answers_among (answered f)) (length rs) (received_by f)) ∙ ap (λ n. map pair_of (drop n (received_by f))) (sym count)));
+    held_few = omega (arith, f.held_few, left, length-drop (length rs) f.held.items);
+    held_room = omega (arith, f.held_room, ap (λ (x : Held). x.room) skipped);
+    all_received = f.all_received;
+    extras_are = sym (ap extras_of put ∙ extras_row (answered f) rs some all);
+    extras_few = omega arith;
+    beside = subst (AreBeside (length (received_by f))) (sym put) (beside_row (length (received_by f)) (answered f) rs all f.beside);
+  }
+
+-- the end after NEWs, where these went into the ring
+module _ (f : Far) (rs : List Reply) (o : Outlet Reply) (all : AllNew rs) (put : put_in o ≡ answered f ++ rs) where
   pub same_answers : answers_among (put_in o) ≡ answers_among (answered f)
   same_answers =
-      omega (arith, ap answers_among put, sum_by-append (λ (x : Reply). cond (is_answer x) 1 0) (answered f) (reply_of e ∷ []), sum_by-cons (λ (x : Reply). cond (is_answer x) 1 0) (reply_of e) [], ap {B = ℕ} (λ b. cond b 1 0) (no_answer e.op new).0)
+      omega (arith, ap answers_among put, sum_by-append (λ (x : Reply). cond (is_answer x) 1 0) (answered f) rs, no_answers rs all)
 
-  abbrev pub after_new : Far
-  after_new = record {
+  abbrev pub after_news : Far
+  after_news = record {
     deliveries = f.deliveries;
     replies = o;
     held = f.held;
@@ -109,54 +137,59 @@ module _ (f : Far) (e : Event) (o : Outlet Reply) (new : is_new_op e.op ≡ true
     held_few = f.held_few;
     held_room = f.held_room;
     all_received = f.all_received;
-    extras_are = f.extras_are ∙ sym (ap extras_of put ∙ extras-other (answered f) (reply_of e) (no_answer e.op new).0 (no_answer e.op new).1);
+    extras_are = f.extras_are ∙ sym (ap extras_of put ∙ extras_news (answered f) rs all);
     extras_few = f.extras_few;
-    beside = subst (AreBeside (length (received_by f))) (sym put) (beside-append (length (received_by f)) (answered f) (reply_of e) f.beside (λ adds. absurd (false≢true (sym (no_answer e.op new).1 ∙ adds))));
+    beside = subst (AreBeside (length (received_by f))) (sym put) (beside_news (length (received_by f)) (answered f) rs all f.beside);
   }
 
--- one reply more is gathered, for which there is room
-pub outlet_step : (o : Outlet Reply) (r : Reply) → length o.batch.items < o.free
+pub only_new : (r : Reply) → is_new_reply r ≡ true → AllNew (r ∷ [])
+only_new r new = All-cons (λ (x : Reply). is_new_reply x ≡ true) r [] new (All-nil (λ (x : Reply). is_new_reply x ≡ true))
+
+pub only_answer : (r : Reply) → is_answer r ≡ true → AllAnswer (r ∷ [])
+only_answer r ends = All-cons (λ (x : Reply). is_answer x ≡ true) r [] ends (All-nil (λ (x : Reply). is_answer x ≡ true))
+
+-- one reply more is in the ring, for which there is room
+pub outlet_step : (o : Outlet Reply) (r : Reply) → 0 < room_of o
     → (q : Outlet Reply) × SameProducer o.ring q.ring × (put_in q ≡ put_in o ++ r ∷ []) × (room_of q + 1 ≡ room_of o)
-outlet_step o r room = (
-  record {
-    ring = o.ring;
-    batch = record {
-      ptr = o.batch.ptr;
-      len = o.batch.len + 1;
-      cap = o.batch.cap;
-      alloc = o.batch.alloc;
-      items = o.batch.items ++ r ∷ [];
-      ok = (omega (arith, o.batch.ok.0, length_push o.batch.items r), omega (arith, o.batch.ok.0, o.known, o.room, o.ring.counts, room));
-      small = o.batch.small;
-    };
-    free = o.free;
-    known = o.known;
-    fits = omega (arith, length_push o.batch.items r, room);
-    room = o.room;
-  },
-  ((refl, refl, refl, refl), refl),
-  sym (append_assoc (sent o.ring) o.batch.items (r ∷ [])),
-  omega (arith, room, length_push o.batch.items r),
-)
+outlet_step o r room =
+    let p = o.ring in
+    let past : List Reply = p.end.past ++ r ∷ [] in (
+      record {
+        ring = record {
+          end = record { words = p.end.words; slots = p.end.slots; marker = p.end.marker; names = p.end.names; heap = p.end.heap; role = p.end.role; past = past; ahead = p.end.ahead; limit = p.end.limit };
+          alloc = p.alloc;
+          capacity = p.capacity;
+          cached_head = p.cached_head;
+          cached_tail = position_of p.capacity (length past);
+          writes = p.writes;
+          counts = (p.counts.0, omega (arith, length_push p.end.past r, p.counts.1, o.known, room), omega (arith, length_push p.end.past r, p.counts.2));
+          cached = (p.cached.0, refl);
+        };
+        free = o.free - 1;
+        known = omega (arith, length_push p.end.past r, o.known, room);
+      },
+      ((refl, refl, refl, refl), refl),
+      refl,
+      omega (arith, room),
+    )
 
 -- what is unanswered after one answer more
-one_answered : (f : Far) (e : Event) (rs : List Reply) → is_answer (reply_of e) ≡ true → rs ≡ answered f ++ reply_of e ∷ []
+one_answered : (f : Far) (r : Reply) (rs : List Reply) → is_answer r ≡ true → rs ≡ answered f ++ r ∷ []
     → drop (answers_among rs) (received_by f) ≡ drop 1 (unanswered f)
-one_answered f e rs ends put =
+one_answered f r rs ends put =
     let n = answers_among (answered f) in
-    let one : answers_among rs ≡ n + 1 = omega (arith, ap answers_among put, sum_by-append (λ (x : Reply). cond (is_answer x) 1 0) (answered f) (reply_of e ∷ []), sum_by-cons (λ (x : Reply). cond (is_answer x) 1 0) (reply_of e) [], ap {B = ℕ} (λ b. cond b 1 0) ends) in
+    let one : answers_among rs ≡ n + 1 = omega (arith, ap answers_among put, sum_by-append (λ (x : Reply). cond (is_answer x) 1 0) (answered f) (r ∷ []), sum_by-cons (λ (x : Reply). cond (is_answer x) 1 0) r [], ap {B = ℕ} (λ b. cond b 1 0) ends) in
     ap (λ k. drop k (received_by f)) one ∙ grind (arith, common_steps, drop-drop 1 n (received_by f))
 
 -- the end after one answer
-pub answer_step : (f : Far) (e : Event) → is_answer (reply_of e) ≡ true → 0 < length (unanswered f) → 0 < room_left f
-    → (g : Far) × (far_id g ≡ far_id f) × (received_by g ≡ received_by f) × (answered g ≡ answered f ++ reply_of e ∷ []) × (unanswered g ≡ drop 1 (unanswered f)) × (room_left g + 1 ≡ room_left f)
-answer_step f e ends some room =
-    let s = outlet_step f.replies (reply_of e) (omega (arith, room)) in
-    let all : AllAnswer (e ∷ []) = All-cons (λ (x : Event). is_answer (reply_of x) ≡ true) e [] ends (All-nil (λ (x : Event). is_answer (reply_of x) ≡ true)) in (
-      after_row f (e ∷ []) s.0 (holds (drop 1 f.held.items) f.held.room) all (omega arith) (omega (arith, some)) s.2 refl,
+pub answer_step : (f : Far) (r : Reply) → is_answer r ≡ true → 0 < length (unanswered f) → 0 < room_left f
+    → (g : Far) × (far_id g ≡ far_id f) × (received_by g ≡ received_by f) × (answered g ≡ answered f ++ r ∷ []) × (unanswered g ≡ drop 1 (unanswered f)) × (room_left g + 1 ≡ room_left f)
+answer_step f r ends some room =
+    let s = outlet_step f.replies r room in (
+      after_row f (r ∷ []) s.0 (holds (drop 1 f.held.items) f.held.room) (only_answer r ends) (omega arith) (omega (arith, some)) s.2 refl,
       (λ i. record { deliveries = (far_id f).deliveries; replies = record { words = s.1.0.0 i; slots = s.1.0.1 i; names = s.1.0.2 i; heap = s.1.0.3 i }; depth = (far_id f).depth; room = s.1.1 i }),
       refl,
       s.2,
-      one_answered f e _ ends s.2,
+      one_answered f r _ ends s.2,
       s.3,
     )

@@ -1,18 +1,18 @@
 -- The lists of a lane, as its two ends see them: offered and taken at the scheduler's end, received and answered at the holder's.
--- What is gathered at an end, to go into its ring at once, counts as offered or answered, and is hidden until then.
+-- What is gathered at the scheduler's end, to go into its ring at once, counts as offered, and is hidden until then.
 use Rattle.std.specs.Prelude.{◌≡◌, ℕ, List, ◌++◌, Option, count_by, map, drop, slice_get}
 use Rattle.evt_types.specs.Operation.{is_answer}
 use Rattle.evt_types.specs.declared.event.Delivery.{Delivery}
 use Rattle.evt_types.specs.declared.event.Reply.{Reply}
 use Rattle.evt_types.specs.Event.{pair_of}
 use Rattle.lane_rings.specs.Intakes.{inside, handed, ahead}
-use Rattle.lane_rings.specs.Outlets.{put_in, kept_back, room_of}
+use Rattle.lane_rings.specs.Outlets.{all_put, kept_back, put_in, room_beside, room_of}
 use Rattle.lane_rings.specs.declared.far.Far.{Far}
 use Rattle.lane_rings.specs.declared.near.Near.{Near}
 
 -- every delivery that the scheduler offered, in order
 abbrev pub offered : Near → List Delivery
-offered near = put_in near.deliveries
+offered near = all_put near.deliveries
 
 -- the last of these, which are not in the ring yet: the holder can't see them before the next `flush`
 abbrev pub hidden_offers : Near → List Delivery
@@ -20,7 +20,7 @@ hidden_offers near = kept_back near.deliveries
 
 -- how many deliveries more there is a free slot for, as far as the scheduler's end knows
 abbrev pub room_in : Near → ℕ
-room_in near = room_of near.deliveries
+room_in near = room_beside near.deliveries
 
 -- every reply that the scheduler took: out of the ring, or of what `fetch` took out of it
 abbrev pub taken : Near → List Reply
@@ -53,10 +53,6 @@ next_delivery far = slice_get (seen_deliveries far) 0
 -- every reply that the holder gave
 abbrev pub answered : Far → List Reply
 answered far = put_in far.replies
-
--- the last of these, which are not in the ring yet: the scheduler can't see them before the next `flush`
-abbrev pub hidden_answers : Far → List Reply
-hidden_answers far = kept_back far.replies
 
 -- how many replies more there is a free slot for, as far as the holder's end knows
 abbrev pub room_left : Far → ℕ

@@ -24,9 +24,9 @@ pub record LaneId : Type 0 where
 abbrev pub near_id : Near → LaneId
 near_id near =
     record {
-      deliveries = record { words = near.deliveries.ring.end.words; slots = near.deliveries.ring.end.slots; names = near.deliveries.ring.end.names; heap = near.deliveries.ring.end.heap };
+      deliveries = record { words = near.deliveries.outlet.ring.end.words; slots = near.deliveries.outlet.ring.end.slots; names = near.deliveries.outlet.ring.end.names; heap = near.deliveries.outlet.ring.end.heap };
       replies = record { words = near.replies.ring.end.words; slots = near.replies.ring.end.slots; names = near.replies.ring.end.names; heap = near.replies.ring.end.heap };
-      depth = near.deliveries.ring.capacity;
+      depth = near.deliveries.outlet.ring.capacity;
       room = near.replies.ring.capacity;
     }
 

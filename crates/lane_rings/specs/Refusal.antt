@@ -26,7 +26,7 @@ RefusesAnswer far reply (Full back) =
     (back ≡ reply) × ((far_id far).room ≤ length (answered far)) × (needs_held reply ≡ true → unanswered far ≢ [])
     × (is_more_reply reply ≡ true → extras_of (answered far) < most_extras)
 
--- the same of a reply that is gathered, where no word comes back
+-- the same, where no reply comes back
 abbrev pub RefusesReply : Far → Reply → Refusal → Type 0
 RefusesReply far reply refusals.NothingHeld = RefusesAnswer far reply NothingHeld
 RefusesReply far reply refusals.TooMany = RefusesAnswer far reply TooMany

@@ -11,7 +11,7 @@ undelivered rests = ahead rests.deliveries ++ rests.offered.items
 
 -- answered, and not taken
 abbrev pub untaken : Beside → List Reply
-untaken rests = ahead rests.replies ++ rests.answered.items
+untaken rests = ahead rests.replies
 
 -- received and not answered: the queue and the number of each
 abbrev pub held_pairs : Beside → List (ℕ × ℕ)

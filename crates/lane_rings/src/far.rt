@@ -32,7 +32,7 @@ pub enum AnswerFault {
     Full(Reply),
 }
 
-/// Why a reply isn't gathered; of two causes the first.
+/// Why a reply is refused, where it doesn't come back; of two causes the first.
 #[derive(Clone, Copy, Debug, PartialEq, Eq)]
 pub enum Refusal {
     /// A FORWARD, RELEASE or FORWARD_MORE where nothing that was received is unanswered.
@@ -107,8 +107,8 @@ impl Far {
     ghost use Rattle.evt_types.specs.Additions.{more_after};
     ghost use Rattle.evt_types.specs.Operation.{is_answer, is_more_reply, is_new_reply, needs_held};
     ghost use mathlib.Core.List.{IsPrefix};
-    ghost use Rattle.evt_types.specs.declared.event.Event.{Event as EventValue};
-    ghost use Rattle.lane_rings.specs.Ends.{received_by, seen_deliveries, next_delivery, answered, hidden_answers, answers_among, unanswered, held_list, room_left, Comes};
+    ghost use Rattle.evt_types.specs.declared.event.Reply.{Reply as ReplyValue};
+    ghost use Rattle.lane_rings.specs.Ends.{received_by, seen_deliveries, next_delivery, answered, answers_among, unanswered, held_list, room_left, Comes};
     ghost use Rattle.lane_rings.specs.Identity.{far_id};
     ghost use Rattle.lane_rings.specs.Refusal.{RefusesAnswer, RefusesReply, reply_of};
 
@@ -119,7 +119,7 @@ impl Far {
     pub fn receive(&mut self) -> Option<Delivery>
         requires { length (unanswered self.old) < (far_id self.old).depth }
         ensures lane { far_id self.new ≡ far_id self.old }
-        ensures answered { (answered self.new ≡ answered self.old) × (hidden_answers self.new ≡ hidden_answers self.old) }
+        ensures answered { answered self.new ≡ answered self.old }
         ensures received { MatchOption result
             (received_by self.new ≡ received_by self.old)
             (λ d. received_by self.new ≡ received_by self.old ++ d ∷ []) }
@@ -143,7 +143,7 @@ impl Far {
     pub fn receive_some(&mut self, most: usize, into: &mut Deliveries)
         requires { most ≤ 64 }
         ensures lane { far_id self.new ≡ far_id self.old }
-        ensures answered { (answered self.new ≡ answered self.old) × (hidden_answers self.new ≡ hidden_answers self.old) }
+        ensures answered { answered self.new ≡ answered self.old }
         ensures came { Comes self.old into.old.items self.new into.new.items }
         ensures few { length into.old.items ≤ most → length into.new.items ≤ most }
         ensures within { length (unanswered self.new) ≤ (far_id self.new).depth }
@@ -161,7 +161,7 @@ impl Far {
         requires most { most ≤ 64 }
         requires room { length into.old.items < most }
         ensures lane { far_id self.new ≡ far_id self.old }
-        ensures answered { (answered self.new ≡ answered self.old) × (hidden_answers self.new ≡ hidden_answers self.old) }
+        ensures answered { answered self.new ≡ answered self.old }
         ensures came { Comes self.old into.old.items self.new into.new.items }
         ensures few { length into.new.items ≤ most }
         ensures within { length (unanswered self.new) ≤ (far_id self.new).depth }
@@ -184,7 +184,7 @@ impl Far {
     fn receive_row(&mut self, most: usize, into: &mut Deliveries) -> bool
         requires most { most ≤ 64 }
         ensures lane { far_id self.new ≡ far_id self.old }
-        ensures answered { (answered self.new ≡ answered self.old) × (hidden_answers self.new ≡ hidden_answers self.old) }
+        ensures answered { answered self.new ≡ answered self.old }
         ensures came { Comes self.old into.old.items self.new into.new.items }
         ensures few { length into.old.items ≤ most → length into.new.items ≤ most }
         ensures within { length (unanswered self.new) ≤ (far_id self.new).depth }
@@ -210,11 +210,8 @@ impl Far {
         ensures nothing_held { (result ≡ Err AnswerFault.NothingHeld) ↔ ((needs_held reply ≡ true) × (unanswered self.old ≡ [])) }
         ensures too_many { (result ≡ Err AnswerFault.TooMany) ↔ ((is_more_reply reply ≡ true) × (unanswered self.old ≢ []) × (MAX_EXTRAS ≤ extras_of (answered self.old))) }
         ensures refused { IfErr result (RefusesAnswer self.old reply) }
-        ensures shown { hidden_answers self.new ≡ [] }
     {
-        let answer = self.stage(&reply.event);
-        self.flush();
-        match answer {
+        match self.submit(&reply.event) {
             Ok(()) => Ok(()),
             Err(Refusal::NothingHeld) => Err(AnswerFault::NothingHeld),
             Err(Refusal::TooMany) => Err(AnswerFault::TooMany),
@@ -222,10 +219,9 @@ impl Far {
         }
     }
 
-    /// As `answer`, but the event's reply is gathered: it goes into the ring by the next `flush`, and until then the scheduler can't
-    /// see it. The event is copied where it is gathered, and nowhere before.
+    /// As `answer`, of the event's reply. The event is copied into the ring, and nowhere before.
     #[inline(always)]
-    pub fn stage(&mut self, event: &PackedEvent) -> Result<(), Refusal>
+    pub fn submit(&mut self, event: &PackedEvent) -> Result<(), Refusal>
         ensures lane { far_id self.new ≡ far_id self.old }
         ensures received { (received_by self.new ≡ received_by self.old) × (seen_deliveries self.new ≡ seen_deliveries self.old) }
         ensures answered { MatchResult result
@@ -238,13 +234,13 @@ impl Far {
         ensures too_many { (result ≡ Err Refusal.TooMany) ↔ ((is_more_reply (reply_of event.now) ≡ true) × (unanswered self.old ≢ []) × (MAX_EXTRAS ≤ extras_of (answered self.old))) }
         ensures refused { IfErr result (RefusesReply self.old (reply_of event.now)) }
     {
-        // What was gathered may lie where the event does, as far as the compiler can tell: it would be read again.
+        // What is put into the ring may lie where the event does, as far as the compiler can tell: it would be read again.
         let is_new = event.is_new();
         let (ended, extras) = self.after(event)?;
         if !self.replies.has_room() {
             return Err(Refusal::Full);
         }
-        self.replies.gather(Reply { event: *event });
+        self.replies.put_one(Reply { event: *event });
         // A NEW answers nothing, so what is held isn't written.
         if is_new {
             return Ok(());
@@ -254,77 +250,43 @@ impl Far {
         Ok(())
     }
 
-    /// Whether just one delivery is held, and nothing is gathered: `answer_last` may answer it.
-    #[inline(always)]
-    pub fn holds_last(&self) -> bool
-        ensures { IsTrue result ↔ ((length (unanswered self.now) ≡ 1) × (hidden_answers self.now ≡ [])) }
-    {
-        self.held.len() == 1 && self.replies.is_flushed()
-    }
-
-    /// As `stage`, of an answer to the only delivery that is held, where nothing is gathered: the reply goes into the ring at once. The
-    /// event is copied there, and nowhere before.
-    #[inline(always)]
-    pub fn answer_last(&mut self, event: &PackedEvent) -> Result<(), Refusal>
-        requires answer { is_answer (reply_of event.now) ≡ true }
-        requires last { length (unanswered self.old) ≡ 1 }
-        requires flushed { hidden_answers self.old ≡ [] }
-        ensures lane { far_id self.new ≡ far_id self.old }
-        ensures received { (received_by self.new ≡ received_by self.old) × (seen_deliveries self.new ≡ seen_deliveries self.old) }
-        ensures answered { MatchResult result
-            (λ _. answered self.new ≡ answered self.old ++ reply_of event.now ∷ [])
-            (λ _. answered self.new ≡ answered self.old) }
-        ensures held { MatchResult result (λ _. unanswered self.new ≡ []) (λ _. unanswered self.new ≡ unanswered self.old) }
-        ensures refused { IfErr result (λ e. (e ≡ Refusal.Full) × ((far_id self.old).room ≤ length (answered self.old))) }
-        ensures shown { hidden_answers self.new ≡ [] }
-    {
-        if !self.replies.has_room() {
-            return Err(Refusal::Full);
-        }
-        self.replies.put_one(Reply { event: *event });
-        self.held.clear();
-        self.extras = 0;
-        Ok(())
-    }
-
-    /// How many replies more there is a free slot for, as far as that is known; the next `stage` looks where none is known.
+    /// How many replies more there is a free slot for, as far as that is known; the next `submit` looks where none is known.
     #[inline(always)]
     pub fn known_room(&self) -> usize
         ensures { result ≡ room_left self.now }
     {
-        self.replies.free - self.replies.batch.len()
+        self.replies.free
     }
 
-    /// As `stage`, of FORWARDs and RELEASEs one after the other, of which each answers a delivery that is held, and for which there is
-    /// room.
+    /// As `answer`, of FORWARDs and RELEASEs one after the other, of which each answers a delivery that is held, and for which there is
+    /// room: they go into the ring by one store. They are copied there, and nowhere before.
     #[inline(always)]
-    pub fn stage_answers(&mut self, events: &[PackedEvent])
-        requires some { 0 < length events.now }
-        requires answers { All (λ (e : EventValue). is_answer (reply_of e) ≡ true) events.now }
-        requires held { length events.now ≤ length (unanswered self.old) }
-        requires room { length events.now ≤ room_left self.old }
+    pub fn answer_row(&mut self, replies: &[Reply])
+        requires some { 0 < length replies.now }
+        requires answers { All (λ (r : ReplyValue). is_answer r ≡ true) replies.now }
+        requires held { length replies.now ≤ length (unanswered self.old) }
+        requires room { length replies.now ≤ room_left self.old }
         ensures lane { far_id self.new ≡ far_id self.old }
         ensures received { (received_by self.new ≡ received_by self.old) × (seen_deliveries self.new ≡ seen_deliveries self.old) }
-        ensures answered { answered self.new ≡ answered self.old ++ map reply_of events.now }
-        ensures held { unanswered self.new ≡ drop (length events.now) (unanswered self.old) }
+        ensures answered { answered self.new ≡ answered self.old ++ replies.now }
+        ensures held { unanswered self.new ≡ drop (length replies.now) (unanswered self.old) }
     {
-        self.replies.gather_row(events);
-        self.held.skip(events.len());
+        self.replies.put_all(replies);
+        self.held.skip(replies.len());
         self.extras = 0;
     }
 
-    /// As `stage`, of a NEW for which there is room.
+    /// The same of NEWs, for which there is room.
     #[inline(always)]
-    pub fn stage_new(&mut self, event: &PackedEvent)
-        requires new { is_new_reply (reply_of event.now) ≡ true }
-        requires room { 0 < room_left self.old }
+    pub fn bring_row(&mut self, replies: &[Reply])
+        requires news { All (λ (r : ReplyValue). is_new_reply r ≡ true) replies.now }
+        requires room { length replies.now ≤ room_left self.old }
         ensures lane { far_id self.new ≡ far_id self.old }
         ensures received { (received_by self.new ≡ received_by self.old) × (seen_deliveries self.new ≡ seen_deliveries self.old) }
-        ensures answered { answered self.new ≡ answered self.old ++ reply_of event.now ∷ [] }
+        ensures answered { answered self.new ≡ answered self.old ++ replies.now }
         ensures held { unanswered self.new ≡ unanswered self.old }
-        ensures room { room_left self.new + 1 ≡ room_left self.old }
     {
-        self.replies.gather(Reply { event: *event });
+        self.replies.put_all(replies);
     }
 
     // How many of the deliveries that are held the event's reply answers, and how many events are beside the oldest once it is given; or
@@ -352,15 +314,6 @@ impl Far {
             return Err(Refusal::TooMany);
         }
         Ok((0, self.extras + 1))
-    }
-
-    /// Puts all that was gathered into the ring, by one store: the scheduler sees it. Nothing that is seen at this end changes.
-    pub fn flush(&mut self)
-        ensures lane { far_id self.new ≡ far_id self.old }
-        ensures lists { (received_by self.new ≡ received_by self.old) × (seen_deliveries self.new ≡ seen_deliveries self.old) × (answered self.new ≡ answered self.old) }
-        ensures shown { hidden_answers self.new ≡ [] }
-    {
-        self.replies.flush();
     }
 
     /// How many deliveries were received and not answered, from 0 to the lane's depth.

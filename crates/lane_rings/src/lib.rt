@@ -4,6 +4,7 @@
 
 mod deliveries;
 mod far;
+mod gathering;
 mod held_pairs;
 mod hints;
 mod intake;
@@ -11,7 +12,6 @@ mod near;
 mod outlet;
 mod pair;
 mod rests;
-mod rows;
 
 pub use deliveries::Deliveries;
 pub use evt_types::Memory;

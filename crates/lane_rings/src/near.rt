@@ -1,13 +1,13 @@
 //! The scheduler's end of a lane.
 
+use crate::gathering::Gathering;
 use crate::intake::Intake;
-use crate::outlet::Outlet;
 use evt_types::{Delivery, Reply};
 
 /// The scheduler's end of a lane: it offers deliveries and takes replies.
 #[derive(Drop)]
 pub struct Near {
-    pub(crate) deliveries: Outlet<Delivery>,
+    pub(crate) deliveries: Gathering<Delivery>,
     pub(crate) replies: Intake<Reply>,
 }
 

@@ -2,21 +2,21 @@
 
 ghost use Rattle.std.specs.Prelude.{◌≡◌, ◌+◌, ◌≤◌, [], ◌++◌, length, max, IfOk};
 ghost use Rattle.evt_types.specs.Additions.{AreBeside};
-ghost use Rattle.lane_rings.specs.Ends.{offered, hidden_offers, taken, seen_replies, fetched_replies, received_by, seen_deliveries, answered, hidden_answers, answers_among, held_list};
+ghost use Rattle.lane_rings.specs.Ends.{offered, hidden_offers, taken, seen_replies, fetched_replies, received_by, seen_deliveries, answered, answers_among, held_list};
 ghost use Rattle.lane_rings.specs.Identity.{near_id, far_id};
 ghost use Rattle.lane_rings.specs.Intakes.{ahead, handed};
-ghost use Rattle.lane_rings.specs.Outlets.{put_in};
 ghost use Rattle.lane_rings.specs.Rest.{undelivered, untaken, held_pairs};
-ghost use Rattle.rtrb.specs.Ring.{IsPair, consumer_capacity, producer_capacity};
+ghost use Rattle.rtrb.specs.Ring.{IsPair, consumer_capacity, producer_capacity, sent};
 
 use crate::far::Far;
+use crate::gathering::Gathering;
 use crate::held_pairs::HeldPairs;
 use crate::intake::Intake;
 use crate::near::Near;
 use crate::outlet::Outlet;
 use crate::rests::Beside;
 use evt_types::{Delivery, Memory, Reply};
-use rtrb::RingBuffer;
+use rtrb::{Producer, RingBuffer};
 use std::alloc::Global;
 use std::collections::VecDeque;
 
@@ -25,15 +25,14 @@ fn ends_of<T: Copy>(
     alloc: Global,
     slots: usize,
     filler: T,
-) -> Result<(Outlet<T>, Intake<T>), Memory>
-    ensures pair { IfOk result (λ r. IsPair r.0.ring r.1.ring) }
-    ensures writing { IfOk result (λ r. (put_in r.0 ≡ []) × (producer_capacity r.0.ring ≡ slots)) }
+) -> Result<(Producer<T>, Intake<T>), Memory>
+    ensures pair { IfOk result (λ r. IsPair r.0 r.1.ring) }
+    ensures writing { IfOk result (λ r. (sent r.0 ≡ []) × (producer_capacity r.0 ≡ slots)) }
     ensures reading { IfOk result (λ r. (handed r.1 ≡ []) × (ahead r.1 ≡ []) × (consumer_capacity r.1.ring ≡ slots)) }
 {
     let (producer, consumer) = RingBuffer::new(alloc, slots)?;
-    let outlet = Outlet::new(alloc, producer)?;
     let intake = Intake::new(alloc, consumer, filler)?;
-    Ok((outlet, intake))
+    Ok((producer, intake))
 }
 
 /// Makes a lane, whose lists are empty. `depth` is how many deliveries the ring has room for, and how many the holder may
@@ -42,18 +41,18 @@ pub fn lane(alloc: Global, depth: usize, replies: usize) -> Result<(Near, Far), 
     ensures pair { IfOk result (λ r. near_id r.0 ≡ far_id r.1) }
     ensures room { IfOk result (λ r. ((far_id r.1).depth ≡ depth) × ((far_id r.1).room ≡ replies)) }
     ensures near { IfOk result (λ r. (offered r.0 ≡ []) × (hidden_offers r.0 ≡ []) × (taken r.0 ≡ []) × (seen_replies r.0 ≡ []) × (fetched_replies r.0 ≡ [])) }
-    ensures far { IfOk result (λ r. (received_by r.1 ≡ []) × (seen_deliveries r.1 ≡ []) × (answered r.1 ≡ []) × (hidden_answers r.1 ≡ [])) }
+    ensures far { IfOk result (λ r. (received_by r.1 ≡ []) × (seen_deliveries r.1 ≡ []) × (answered r.1 ≡ [])) }
 {
     let (offers, receipts) = ends_of(alloc, depth, Delivery::default())?;
     let (answers, takings) = ends_of(alloc, replies, Reply::default())?;
     let held = HeldPairs::new(alloc, depth)?;
     let near = Near {
-        deliveries: offers,
+        deliveries: Gathering::new(alloc, offers)?,
         replies: takings,
     };
     let far = Far {
         deliveries: receipts,
-        replies: answers,
+        replies: Outlet::new(answers),
         held,
         extras: 0,
     };
@@ -73,9 +72,13 @@ pub fn beside(near: Near, far: Far) -> Beside
     ensures beside { AreBeside (length (received_by far)) (answered far) }
 {
     let Near {
-        deliveries: mut offers,
+        deliveries,
         replies: mut takings,
     } = near;
+    let Gathering {
+        outlet: mut offers,
+        batch,
+    } = deliveries;
     let Far {
         deliveries: mut receipts,
         replies: mut answers,
@@ -89,9 +92,8 @@ pub fn beside(near: Near, far: Far) -> Beside
     takings.ring.slots_beside(&mut answers.ring);
     Beside {
         deliveries: receipts,
-        offered: VecDeque::from(offers.batch),
+        offered: VecDeque::from(batch),
         replies: takings,
-        answered: VecDeque::from(answers.batch),
         held,
     }
 }

@@ -11,7 +11,6 @@ pub struct Beside {
     pub(crate) deliveries: Intake<Delivery>,
     pub(crate) offered: VecDeque<Delivery>,
     pub(crate) replies: Intake<Reply>,
-    pub(crate) answered: VecDeque<Reply>,
     pub(crate) held: HeldPairs,
 }
 
@@ -40,11 +39,7 @@ impl Beside {
             (λ r. untaken self.old ≡ r ∷ untaken self.new) }
         ensures others { (undelivered self.new ≡ undelivered self.old) × (held_pairs self.new ≡ held_pairs self.old) }
     {
-        let seen = self.replies.next_seen();
-        if seen.is_some() {
-            return seen;
-        }
-        self.answered.pop_front()
+        self.replies.next_seen()
     }
 
     /// The queue and the number of the oldest delivery that was received and not answered, which leaves; `None` only where none is left.

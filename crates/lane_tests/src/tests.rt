@@ -10,4 +10,5 @@ mod made_claims;
 mod memory;
 mod port;
 mod refusals;
+mod rows;
 mod turns;

@@ -5,7 +5,7 @@ ghost use Rattle.event_device.specs.Device.{site_of};
 
 use super::calls::Sent;
 use event_device::{Behind, Deliveries, Port, PortCounts, Refused};
-use evt_types::{Delivery, Op, PackedEvent};
+use evt_types::{Delivery, Op, PackedEvent, Reply};
 
 /// Deliveries of queue 0, by their numbers; or why none came.
 pub(crate) type Came = Result<&'static [(u64, Sent)], Behind>;
@@ -79,9 +79,15 @@ fn enqueues_packed(port: &mut Port, sent: &[Sent; 3], wanted: &Taken) -> bool
 {
     let [first, second, third] = *sent;
     let events = [
-        PackedEvent::of(&first.event()),
-        PackedEvent::of(&second.event()),
-        PackedEvent::of(&third.event()),
+        Reply {
+            event: PackedEvent::of(&first.event()),
+        },
+        Reply {
+            event: PackedEvent::of(&second.event()),
+        },
+        Reply {
+            event: PackedEvent::of(&third.event()),
+        },
     ];
     port.enqueue_packed(&events) == *wanted
 }

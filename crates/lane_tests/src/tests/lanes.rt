@@ -28,9 +28,8 @@ enum Call {
     /// So many are wanted, and these come.
     ReceiveSome(usize, &'static [u64]),
     Answer(Op, u64, Said),
-    /// The same, gathered.
-    StageReply(Op, u64, Said),
-    FlushReplies,
+    /// The same, by the call that takes the event.
+    Submit(Op, u64, Said),
     /// Whether as many deliveries are held as the lane's depth allows.
     IsFull(bool),
     /// How many deliveries are held.
@@ -146,8 +145,7 @@ static ROWS: [Row; 6] = [
             Call::Offer(1, true),
             Call::Receive(Some(1)),
             Call::Answer(Op::ForwardMore, 1, GIVEN),
-            Call::StageReply(Op::ForwardMore, 2, GIVEN),
-            Call::FlushReplies,
+            Call::Submit(Op::ForwardMore, 2, GIVEN),
             Call::Answer(Op::ForwardMore, 3, GIVEN),
             Call::Extras(3),
             Call::Answer(Op::ForwardMore, 4, GIVEN),
@@ -195,27 +193,28 @@ static ROWS: [Row; 6] = [
         untaken: &[],
         held: &[0, 1],
     },
-    // As many replies as were wanted come out of the ring, leave its places free, and are untaken until they are taken.
+    // A reply is seen at once. As many as were wanted come out of the ring, leave its places free, and are untaken until they are taken.
     Row {
         name: "replies by slices",
         depth: 2,
         replies: 2,
         calls: &[
-            Call::StageReply(Op::New, 0, GIVEN),
-            Call::StageReply(Op::New, 1, GIVEN),
-            Call::StageReply(Op::New, 2, FULL),
-            Call::Peek(None),
-            Call::FlushReplies,
-            Call::Fetch(1),
-            Call::Answer(Op::New, 2, GIVEN),
-            Call::Answer(Op::New, 3, FULL),
+            Call::Submit(Op::New, 0, GIVEN),
+            Call::Peek(Some((Op::New, 0))),
+            Call::Submit(Op::New, 1, GIVEN),
+            Call::Submit(Op::New, 2, GIVEN),
+            Call::Submit(Op::New, 3, FULL),
             Call::Take(Some((Op::New, 0))),
-            Call::Fetch(2),
+            Call::Fetch(1),
             Call::Answer(Op::New, 3, GIVEN),
-            Call::Answer(Op::New, 4, GIVEN),
+            Call::Answer(Op::New, 4, FULL),
+            Call::Take(Some((Op::New, 1))),
+            Call::Fetch(2),
+            Call::Submit(Op::New, 4, GIVEN),
+            Call::Answer(Op::New, 5, GIVEN),
         ],
         undelivered: &[],
-        untaken: &[(Op::New, 1), (Op::New, 2), (Op::New, 3), (Op::New, 4)],
+        untaken: &[(Op::New, 2), (Op::New, 3), (Op::New, 4), (Op::New, 5)],
         held: &[],
     },
 ];
@@ -251,11 +250,11 @@ fn offers(near: &mut Near, delivery: Delivery, gathers: bool, has_room: bool) ->
 }
 
 /// Whether this is said of the reply, which comes back where there is no room for it.
-fn answers(far: &mut Far, reply: Reply, gathers: bool, said: Said) -> bool
+fn answers(far: &mut Far, reply: Reply, submits: bool, said: Said) -> bool
     ensures { far_id far.new ≡ far_id far.old }
 {
     let wanted = said.map_err(|refusal| fault_of(refusal, reply));
-    say(far, reply, gathers) == wanted
+    say(far, reply, submits) == wanted
 }
 
 /// Whether just these come where so many are wanted.
@@ -302,11 +301,7 @@ fn make_far(far: &mut Far, call: Call) -> bool
         Call::Receive(wanted) => !far.is_full() && far.receive() == delivery_of(wanted),
         Call::ReceiveSome(most, wanted) => receives(far, most, wanted),
         Call::Answer(op, number, said) => answers(far, reply(op, number), false, said),
-        Call::StageReply(op, number, said) => answers(far, reply(op, number), true, said),
-        Call::FlushReplies => {
-            far.flush();
-            true
-        }
+        Call::Submit(op, number, said) => answers(far, reply(op, number), true, said),
         Call::IsFull(wanted) => far.is_full() == wanted,
         Call::Holds(count) => far.held() == count,
         Call::Extras(count) => far.extras() == count,

@@ -1,8 +1,12 @@
 //! Deliveries and replies, which are known by their numbers.
 
+ghost use Rattle.std.specs.Prelude.{◌≡◌};
+
 use evt_types::{Delivery, Event, Op, PackedEvent, Reply};
 
-fn event(op: Op, queue: u8, payload: u64) -> PackedEvent {
+fn event(op: Op, queue: u8, payload: u64) -> PackedEvent
+    ensures { result.op ≡ op }
+{
     PackedEvent::of(&Event {
         flow: 7,
         sub_type: 0,
@@ -26,7 +30,9 @@ pub(crate) fn pair(number: u64) -> (usize, u64) {
 }
 
 /// The reply of this number.
-pub(crate) fn reply(op: Op, number: u64) -> Reply {
+pub(crate) fn reply(op: Op, number: u64) -> Reply
+    ensures { result.event.op ≡ op }
+{
     Reply {
         event: event(op, 0, number),
     }

@@ -40,11 +40,7 @@ impl Port {
         ensures seat { IsSeatOf claims.now result }
         ensures port { port_of result ≡ port_of self.seat }
     {
-        let Port {
-            mut seat,
-            mut stint,
-        } = self;
-        stint.flush();
+        let Port { mut seat, stint } = self;
         if stint.far.held() == 0 {
             claims.give_back(&mut seat, stint);
         } else {

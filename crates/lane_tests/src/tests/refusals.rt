@@ -99,7 +99,7 @@ static ROWS: [Row; 6] = [
 ];
 
 /// Offers a delivery for each number, and receives it; whether all came.
-fn deliver(near: &mut Near, far: &mut Far, numbers: &[u64]) -> bool
+pub(crate) fn deliver(near: &mut Near, far: &mut Far, numbers: &[u64]) -> bool
     ensures near { near_id near.new ≡ near_id near.old }
     ensures far { far_id far.new ≡ far_id far.old }
 {
@@ -121,12 +121,12 @@ pub(crate) fn fault_of(refusal: Refusal, reply: Reply) -> AnswerFault {
     }
 }
 
-/// What is said of a reply that is answered, or gathered.
-pub(crate) fn say(far: &mut Far, reply: Reply, gathers: bool) -> Result<(), AnswerFault>
+/// What is said of a reply, by the one call or by the other, which takes the event.
+pub(crate) fn say(far: &mut Far, reply: Reply, submits: bool) -> Result<(), AnswerFault>
     ensures { far_id far.new ≡ far_id far.old }
 {
-    if gathers {
-        far.stage(&reply.event)
+    if submits {
+        far.submit(&reply.event)
             .map_err(|refusal| fault_of(refusal, reply))
     } else {
         far.answer(reply)
@@ -134,11 +134,11 @@ pub(crate) fn say(far: &mut Far, reply: Reply, gathers: bool) -> Result<(), Answ
 }
 
 /// Gives a reply of each kind; whether all were accepted.
-fn give(far: &mut Far, ops: &[Op], gathers: bool) -> bool
+fn give(far: &mut Far, ops: &[Op], submits: bool) -> bool
     ensures { far_id far.new ≡ far_id far.old }
 {
     for (place, op) in ops.iter().enumerate() {
-        if say(far, reply(*op, place as u64), gathers) != Ok(()) {
+        if say(far, reply(*op, place as u64), submits) != Ok(()) {
             return false;
         }
     }
@@ -158,7 +158,7 @@ fn take(near: &mut Near, ops: &[Op]) -> bool
 }
 
 /// Lets so many deliveries pass and be released, so that both rings are used from a later place on; whether all passed.
-fn turn(near: &mut Near, far: &mut Far, count: u64) -> bool
+pub(crate) fn turn(near: &mut Near, far: &mut Far, count: u64) -> bool
     ensures near { near_id near.new ≡ near_id near.old }
     ensures far { far_id far.new ≡ far_id far.old }
 {
@@ -219,12 +219,12 @@ fn stands(far: &Far, stand: Stand) -> bool {
 }
 
 /// Whether the reply is refused for its cause, and what is held is the same before and after.
-fn refuses(far: &mut Far, stand: Stand, refused: Refused, gathers: bool) -> bool
+fn refuses(far: &mut Far, stand: Stand, refused: Refused, submits: bool) -> bool
     ensures { far_id far.new ≡ far_id far.old }
 {
     let (op, refusal) = refused;
     let said = Err(fault_of(refusal, refused_reply(op)));
-    stands(far, stand) && say(far, refused_reply(op), gathers) == said && stands(far, stand)
+    stands(far, stand) && say(far, refused_reply(op), submits) == said && stands(far, stand)
 }
 
 /// Where no more may be added beside the oldest that is held, that is released; whether the release is taken.
@@ -255,27 +255,26 @@ fn goes_on(near: &mut Near, far: &mut Far, stand: Stand, refused: Refused) -> bo
 }
 
 /// Brings a lane to where replies are refused; whether all came there.
-fn comes(near: &mut Near, far: &mut Far, stand: Stand, turns: u64, gathers: bool) -> bool
+fn comes(near: &mut Near, far: &mut Far, stand: Stand, turns: u64, submits: bool) -> bool
     ensures near { near_id near.new ≡ near_id near.old }
     ensures far { far_id far.new ≡ far_id far.old }
 {
     let (_, received, given, _, _) = stand;
     turn(near, far, turns)
         && deliver(near, far, received)
-        && give(far, given, gathers)
+        && give(far, given, submits)
         && near.offer(delivery(9)) == Ok(())
 }
 
-/// Brings a lane there, after so many turns and with replies gathered or not, has the reply refused, takes what was given before it,
+/// Brings a lane there, after so many turns and by the one call or the other, has the reply refused, takes what was given before it,
 /// and goes on; whether all is as is said.
 fn plays(ends: (Near, Far), stand: Stand, refused: Refused, way: (u64, bool)) -> bool
     requires { near_id ends.0 ≡ far_id ends.1 }
 {
     let (mut near, mut far) = ends;
-    let (turns, gathers) = way;
-    let is_there = comes(&mut near, &mut far, stand, turns, gathers);
-    let is_refused = refuses(&mut far, stand, refused, gathers);
-    far.flush();
+    let (turns, submits) = way;
+    let is_there = comes(&mut near, &mut far, stand, turns, submits);
+    let is_refused = refuses(&mut far, stand, refused, submits);
     let is_next = take(&mut near, stand.2) && goes_on(&mut near, &mut far, stand, refused);
     let mut rests = beside(near, far);
     let is_left = leaves(&mut rests, &[], &[])
@@ -283,12 +282,12 @@ fn plays(ends: (Near, Far), stand: Stand, refused: Refused, way: (u64, bool)) ->
     is_there && is_refused && is_next && is_left
 }
 
-/// The same over the places at which a ring begins, and with what was given in the ring, or gathered.
+/// The same over the places at which a ring begins, and by each of the two calls.
 fn plays_each(alloc: Global, stand: Stand, refused: Refused) -> Result<bool, Memory> {
     for turns in 0..4 {
-        for gathers in [false, true] {
+        for submits in [false, true] {
             let ends = lane(alloc, DEPTH, stand.0)?;
-            if !plays(ends, stand, refused, (turns, gathers)) {
+            if !plays(ends, stand, refused, (turns, submits)) {
                 return Ok(false);
             }
         }

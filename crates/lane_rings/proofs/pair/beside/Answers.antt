@@ -14,16 +14,15 @@ use Rattle.lane_rings.proofs.pair.beside.Goals as goal
 pub returns-clause-fetched : goal.returns-clause-fetched
 returns-clause-fetched c =
     let fetched : List Reply = inside c.args.near.replies in
-    let back : List Reply = (fetched ++ known_items c.slots_beside-4.new.self) ++ c.from-2.result.items in
+    let back : List Reply = fetched ++ known_items c.slots_beside-4.new.self in
     let given : answered c.args.far ≡ taken c.args.near ++ back = grind (arith, common_steps) in
-    let from : answered c.args.far ≡ sent c.slots_beside-2.new.self ++ c.args.far.replies.batch.items = grind (arith, common_steps) in
+    let from : answered c.args.far ≡ sent c.slots_beside-2.new.self ++ [] = grind (arith, common_steps) in
     let out : received c.args.near.replies.ring ≡ taken c.args.near ++ fetched = c.args.near.replies.last in
     let same : (near_id c.args.near).room ≡ (far_id c.args.far).room = ap (λ (l : LaneId). l.room) c.requires in
     let whole : c.slots_beside-2.result + length (sent c.slots_beside-2.new.self) ≡ consumer_capacity c.args.near.replies.ring + length (received c.args.near.replies.ring) =
     omega (arith, same, c.slots_beside-2.ensures.all_free, ap length c.slots_beside-2.ensures.consumer.1, c.slots_beside-2.ensures.looked.0.1)
     in
-    let fits : length c.args.far.replies.batch.items ≤ c.slots_beside-2.result = omega arith in
-    few_left _ (sent c.slots_beside-2.new.self) c.args.far.replies.batch.items _ fetched _ back c.slots_beside-2.result _ from given out fits whole
+    few_left _ (sent c.slots_beside-2.new.self) [] _ fetched _ back c.slots_beside-2.result _ from given out (omega arith) whole
 
 pub returns-clause-room : goal.returns-clause-room
 returns-clause-room c =

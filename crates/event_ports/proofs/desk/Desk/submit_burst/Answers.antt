@@ -1,56 +1,75 @@
--- One event more was taken, or refused.
-use Rattle.std.proofs.Common.{rules, ◌≡◌, ◌∙◌, ap, sym, Some, refl, slice_get, subst, take}
+-- A row and an event more were taken, or refused.
+use Rattle.std.proofs.Common.{rules, ◌≡◌, ◌≤◌, ◌∙◌, ◌-◌, ◌∷◌, ℕ, List, length, length-drop, drop, refl, sym, take, arith}
+use Rattle.std.proofs.lemmas.List.{take_all}
+use Rattle.evt_types.specs.declared.event.Reply.{Reply}
 use Rattle.event_ports.proofs.Refusing.{same_refusal}
-use Rattle.event_ports.specs.Desks.{DeskSite, own_site, hand, Enqueues, EnqueuesAll}
-use Rattle.event_ports.specs.Queues.{AllNameQueues, NamesQueue}
-use Rattle.event_ports.proofs.Chains.{stops_gathering}
-use Rattle.event_ports.proofs.Bursts.{taken_more, chain_taken, names_more, read_next}
+use Rattle.event_ports.specs.Desks.{events_of}
+use Rattle.event_ports.proofs.Chains.{all_chained, chained, left_next, left_others, left_row, not_refused, one_chained, row_chained, row_ended, row_ended_before, stops_burst}
 use Rattle.event_ports.proofs.desk.Desk.submit_burst.Goals as goal
 
-pub returns-in-Err-clause-refused : goal.returns-in-Err-clause-refused
-returns-in-Err-clause-refused c =
-    let was = c.loop-taken.invariant in
+-- what is left behind a row
+behind : (n : ℕ) (rs : List Reply) → n ≤ length rs → take (length rs - n) (drop n rs) ≡ drop n rs
+behind n rs within = take_all (length rs - n) (drop n rs) (omega (arith, length-drop n rs))
+
+pub returns-then-is_some-clause-chain : goal.returns-then-is_some-clause-chain
+returns-then-is_some-clause-chain c =
+    let left = c.loop-rest.rest.now in
+    let n = c.submit_row-row.result.0 in
+    let within = c.submit_row-row.ensures.within in
+    row_ended c.args.replies.now left _ n c.loop-rest.invariant.0 within (behind n left within) c.args.self.now c.loop-rest.self c.submit_row-row.new.self c.submit_row-row.result.1
+    (sym c.is_some.ensures ∙ c.if-is_some.true) c.loop-rest.invariant.1 c.submit_row-row.ensures.chain
+
+pub returns-then-is_some-clause-all : goal.returns-then-is_some-clause-all
+returns-then-is_some-clause-all c =
+    let left = c.loop-rest.rest.now in
+    let n = c.submit_row-row.result.0 in
+    let within = c.submit_row-row.ensures.within in
+    row_ended_before c.args.replies.now left _ n c.loop-rest.invariant.0 within (behind n left within) c.args.self.now c.loop-rest.self c.submit_row-row.new.self c.submit_row-row.result.1
+    (sym c.is_some.ensures ∙ c.if-is_some.true) c.loop-rest.invariant.1 c.submit_row-row.ensures.chain
+
+pub returns-in_default-clause-chain : goal.returns-in_default-clause-chain
+returns-in_default-clause-chain c =
+    let left = c.loop-rest.rest.now in
+    let n = c.submit_row-row.result.0 in
+    let within = c.submit_row-row.ensures.within in
+    let row = chained (events_of left) n c.submit_row-row.result.1 c.loop-rest.self c.submit_row-row.new.self (not_refused _ (sym c.is_some.ensures ∙ c.if-is_some.false)) c.submit_row-row.ensures.chain in
     record {
-      event = c.of.result;
-      between = c.loop-taken.self;
-      is_next = (read_next c.args.events.now c.loop-taken.taken c.index-events-taken.result c.loop-taken-test.true c.index-events-taken.is ∙ ap Some (sym c.of.ensures));
-      site = was.0;
-      credit = was.1;
-      submitted = was.2;
-      there = was.4;
-      refused = c.in-Err.ensures.refused;
+      between = c.submit_row-row.new.self;
+      taken =
+          all_chained c.args.replies.now (take (length left - n) (drop n left)) c.args.self.now c.submit_row-row.new.self c.in_default.ensures.cases
+          (row_chained c.args.replies.now left _ n c.loop-rest.invariant.0 within (behind n left within) c.args.self.now c.loop-rest.self c.submit_row-row.new.self c.loop-rest.invariant.1 row);
+      ends = refl;
     }
 
 pub returns-in-Err-clause-chain : goal.returns-in-Err-clause-chain
 returns-in-Err-clause-chain c =
-    stops_gathering c.args.events.now _ c.of.result _ c.args.self.now c.loop-taken.self c.submit.new.self c.loop-taken.invariant.3
-    (read_next c.args.events.now c.loop-taken.taken c.index-events-taken.result c.loop-taken-test.true c.index-events-taken.is ∙ ap Some (sym c.of.ensures))
-    c.submit.ensures.site c.submit.ensures.credit c.in-Err.ensures.submitted c.in-Err.ensures.refused
-    (λ saw new. same_refusal _ _ (c.in-Err.ensures.stopped saw new))
+    let left = c.loop-rest.rest.now in
+    let n = c.submit_row-row.result.0 in
+    let within = c.submit_row-row.ensures.within in
+    let row = chained (events_of left) n c.submit_row-row.result.1 c.loop-rest.self c.submit_row-row.new.self (not_refused _ (sym c.is_some.ensures ∙ c.if-is_some.false)) c.submit_row-row.ensures.chain in
+    let first : take (length left - n) (drop n left) ≡ c.in-Some.reply.now ∷ c.in-Some.others.now = (search rules) in
+    stops_burst (events_of c.args.replies.now) _ c.in-Some.reply.now.event _ c.args.self.now c.submit_row-row.new.self c.submit.new.self
+    (row_chained c.args.replies.now left _ n c.loop-rest.invariant.0 within (behind n left within) c.args.self.now c.loop-rest.self c.submit_row-row.new.self c.loop-rest.invariant.1 row)
+    (left_next c.args.replies.now (take (length left - n) (drop n left)) c.in-Some.others.now c.in-Some.reply.now (left_row c.args.replies.now left _ n c.loop-rest.invariant.0 within (behind n left within)) first)
+    c.submit.ensures.site c.submit.ensures.credit c.in-Err.ensures.submitted c.in-Err.ensures.refused (λ saw new. same_refusal _ _ (c.in-Err.ensures.stopped saw new))
 
-pub loop-taken-preserved : goal.loop-taken-preserved
-loop-taken-preserved c =
-    let was = c.loop-taken.invariant in
-    let at : slice_get c.args.events.now c.loop-taken.taken ≡ Some c.of.result = (read_next c.args.events.now c.loop-taken.taken c.index-events-taken.result c.loop-taken-test.true c.index-events-taken.is ∙ ap Some (sym c.of.ensures)) in
-    let one : Enqueues c.of.result c.loop-taken.self c.submit.new.self = record {
-      site = c.submit.ensures.site;
-      credit = c.submit.ensures.credit;
-      submitted = c.in_default.ensures.submitted;
-      pays = c.in_default.ensures.pays;
-      there = c.in_default.ensures.there;
-      unshut = (search rules);
-    } in (
-      c.submit.ensures.site ∙ was.0,
-      (search rules),
-      taken_more c.args.events.now c.loop-taken.taken c.of.result (hand c.args.self.now) (hand c.loop-taken.self) (hand c.submit.new.self) at was.2 c.in_default.ensures.submitted,
-      chain_taken c.args.events.now c.loop-taken.taken c.of.result c.args.self.now c.loop-taken.self c.submit.new.self at was.3 one,
-      names_more (own_site c.args.self.now).queues c.args.events.now c.loop-taken.taken c.of.result at was.4 (subst (λ (d : DeskSite). NamesQueue d.queues c.of.result) was.0 one.there),
+pub loop-rest-preserved : goal.loop-rest-preserved
+loop-rest-preserved c =
+    let left = c.loop-rest.rest.now in
+    let n = c.submit_row-row.result.0 in
+    let within = c.submit_row-row.ensures.within in
+    let row = chained (events_of left) n c.submit_row-row.result.1 c.loop-rest.self c.submit_row-row.new.self (not_refused _ (sym c.is_some.ensures ∙ c.if-is_some.false)) c.submit_row-row.ensures.chain in
+    let first : take (length left - n) (drop n left) ≡ c.in-Some.reply.now ∷ c.in-Some.others.now = (search rules) in
+    let is_left = left_row c.args.replies.now left _ n c.loop-rest.invariant.0 within (behind n left within) in (
+      left_others c.args.replies.now (take (length left - n) (drop n left)) c.in-Some.others.now c.in-Some.reply.now is_left first,
+      one_chained c.args.replies.now (take (length left - n) (drop n left)) c.in-Some.others.now c.in-Some.reply.now is_left first c.args.self.now c.submit_row-row.new.self c.submit.new.self
+          (row_chained c.args.replies.now left _ n c.loop-rest.invariant.0 within (behind n left within) c.args.self.now c.loop-rest.self c.submit_row-row.new.self c.loop-rest.invariant.1 row)
+          (record {
+            site = c.submit.ensures.site;
+            credit = c.submit.ensures.credit;
+            submitted = c.in_default-submit.ensures.submitted;
+            pays = c.in_default-submit.ensures.pays;
+            there = c.in_default-submit.ensures.there;
+            unshut = (search rules);
+          }),
     )
-
-pub returns-clause-chain : goal.returns-clause-chain
-returns-clause-chain c =
-    let was = c.loop-taken.invariant in
-    record { between = c.loop-taken.self; taken = subst (λ n. EnqueuesAll (take n c.args.events.now) c.args.self.now c.loop-taken.self) (search rules) was.3; ends = refl }
-
-pub returns-clause-there : goal.returns-clause-there
-returns-clause-there c = subst (λ n. AllNameQueues (own_site c.args.self.now).queues (take n c.args.events.now)) (search rules) c.loop-taken.invariant.4

@@ -1,11 +1,10 @@
-use Rattle.std.proofs.Common.{◌≡◌, take}
-use Rattle.credit_pool.specs.Accounts.{Stays}
-use Rattle.event_ports.specs.Lanes.{SubmitsAll}
-use Rattle.event_ports.specs.Desks.{own_site, account_of, hand, EnqueuesAll}
-use Rattle.event_ports.specs.Queues.{AllNameQueues}
+use Rattle.std.proofs.Common.{◌-◌, length, take}
+use Rattle.event_ports.specs.Desks.{EnqueuesAll, events_of}
+use Rattle.event_ports.proofs.Chains.{IsLeft}
 use Rattle.event_ports.proofs.desk.Desk.submit_burst.Given as goal
 
-abbrev pub invariant-loop-taken : goal.invariant-loop-taken
-invariant-loop-taken l =
-    (own_site l.self ≡ own_site l.initial.self) × Stays (account_of l.initial.self) (account_of l.self) × SubmitsAll (take l.taken l.events) (hand l.initial.self) (hand l.self)
-    × EnqueuesAll (take l.taken l.events) l.initial.self l.self × AllNameQueues (own_site l.initial.self).queues (take l.taken l.events)
+abbrev pub invariant-loop-rest : goal.invariant-loop-rest
+invariant-loop-rest l = IsLeft l.replies l.rest × EnqueuesAll (take (length l.replies - length l.rest) (events_of l.replies)) l.initial.self l.self
+
+abbrev pub decreases-loop-rest : goal.decreases-loop-rest
+decreases-loop-rest l = length l.rest

@@ -3,6 +3,7 @@ use Rattle.std.proofs.Common.{◌≡◌, ◌≤◌, ◌+◌, length, take, refl,
 use Rattle.credit_pool.specs.Pockets.{IsPocket}
 use Rattle.event_ports.specs.Handed.{LanesSite, mores_of, news_of, releases_of}
 use Rattle.event_ports.specs.Desks.{account_of, own_site, pocket_of}
+use Rattle.event_ports.proofs.Bursts.{events_taken}
 use Rattle.event_ports.proofs.OwnRows.{MayRow, answers_row, brought, counted, forwards_bring, may_forward, row_paid}
 use Rattle.event_ports.proofs.Released.{at_lanes}
 use Rattle.event_ports.proofs.desk.Desk.submit_forwards.Goals as goal
@@ -14,9 +15,9 @@ invariant_of-self c =
     let count = c.count_forwards-count.result in
     let row = c.own_row-most.ensures in
     let fewer = c.count_forwards-count.ensures.within in
-    let within : count ≤ length c.args.events.now = omega (arith, row.within, fewer) in
-    let may : MayRow (take count c.args.events.now) was = may_forward was c.args.events.now count c.own_row-most.result within fewer (record { held = row.held; own = row.own; room = row.room }) c.count_forwards-count.ensures.forwards in
-    let none : pocket_of was + brought (take count c.args.events.now) ≡ pocket_of was = omega (arith, forwards_bring (take count c.args.events.now) was.queues c.count_forwards-count.ensures.forwards) in
+    let within : count ≤ length c.args.replies.now = omega (arith, row.within, fewer) in
+    let may : MayRow (take count c.args.replies.now) was = may_forward was c.args.replies.now count c.own_row-most.result within fewer (record { held = row.held; own = row.own; room = row.room }) c.count_forwards-count.ensures.forwards in
+    let none : pocket_of was + brought (take count c.args.replies.now) ≡ pocket_of was = omega (arith, forwards_bring (take count c.args.replies.now) was.queues c.count_forwards-count.ensures.forwards) in
     record {
       seat_of = was.seat_of;
       unset = was.unset;
@@ -24,7 +25,7 @@ invariant_of-self c =
       numbered = ap (λ (l : LanesSite). l.flows.port) c.answer_row.ensures.site ∙ was.numbered;
       paid =
           subst (λ n. IsPocket n ((account_of was).drawn + releases_of lanes) ((account_of was).returned + news_of lanes + mores_of lanes)) none
-          (row_paid (take count c.args.events.now) was lanes may c.answer_row.ensures);
+          (row_paid (take count c.args.replies.now) was lanes may c.answer_row.ensures);
     }
 
 pub returns-clause-taken : goal.returns-clause-taken
@@ -33,8 +34,9 @@ returns-clause-taken c =
     let count = c.count_forwards-count.result in
     let row = c.own_row-most.ensures in
     let fewer = c.count_forwards-count.ensures.within in
-    let within : count ≤ length c.args.events.now = omega (arith, row.within, fewer) in
-    let none : pocket_of was + brought (take count c.args.events.now) ≡ pocket_of was = omega (arith, forwards_bring (take count c.args.events.now) was.queues c.count_forwards-count.ensures.forwards) in
-    answers_row (take count c.args.events.now) was _ (omega (arith, counted count c.args.events.now within, c.if-count-eq0.false))
-    (may_forward was c.args.events.now count c.own_row-most.result within fewer (record { held = row.held; own = row.own; room = row.room }) c.count_forwards-count.ensures.forwards)
-    (record { site = ap (at_lanes (own_site was)) c.answer_row.ensures.site; account = refl; pocket = sym none; lanes = c.answer_row.ensures })
+    let within : count ≤ length c.args.replies.now = omega (arith, row.within, fewer) in
+    let none : pocket_of was + brought (take count c.args.replies.now) ≡ pocket_of was = omega (arith, forwards_bring (take count c.args.replies.now) was.queues c.count_forwards-count.ensures.forwards) in
+    events_taken c.args.replies.now count was _
+    (answers_row (take count c.args.replies.now) was _ (omega (arith, counted count c.args.replies.now within, c.if-count-eq0.false))
+    (may_forward was c.args.replies.now count c.own_row-most.result within fewer (record { held = row.held; own = row.own; room = row.room }) c.count_forwards-count.ensures.forwards)
+    (record { site = ap (at_lanes (own_site was)) c.answer_row.ensures.site; account = refl; pocket = sym none; lanes = c.answer_row.ensures }))

@@ -1,67 +1,70 @@
--- A NEW more was taken, or its look saw the device shut.
-use Rattle.std.proofs.Common.{rules, ◌≡◌, ◌<◌, ◌+◌, ◌-◌, ◌∙◌, Some, inl, refl, slice_get, sym, ap, subst, take, arith}
-use Rattle.std.proofs.lemmas.Bool.{false≢true}
-use Rattle.evt_types.specs.Operation.{costs_credit}
-use Rattle.evt_types.specs.declared.event.Op.TheVariants as ops
-use Rattle.event_ports.specs.Desks.{own_site, pocket_of, EnqueuesAll}
-use Rattle.event_ports.proofs.Bursts.{chain_taken, read_next}
-use Rattle.event_ports.proofs.NewRows.{new_taken}
-use Rattle.event_ports.proofs.Refusing.{not_more}
+-- The NEWs for which the device was found open were brought in.
+use Rattle.std.proofs.Common.{◌≡◌, ◌+◌, ◌-◌, ◌∙◌, ℕ, length, length-take, take, ap, subst, arith, refl}
+use Rattle.credit_pool.specs.Pockets.{IsPocket}
+use Rattle.lane_rings.specs.Ends.{room_left}
+use Rattle.event_ports.specs.declared.lanes.Lanes.{Lanes}
+use Rattle.event_ports.specs.Handed.{BringsRow, LanesSite, mores_of, news_of, releases_of}
+use Rattle.event_ports.specs.Desks.{account_of, pocket_of, own_site}
+use Rattle.event_ports.specs.Rows.{LooksOver}
+use Rattle.event_ports.proofs.NewRows.{all_new, looks_lanes, looks_pocket, none_brought, paid_row, row_brought}
+use Rattle.event_ports.proofs.OwnRows.{counted}
 use Rattle.event_ports.proofs.Released.{at_lanes}
 use Rattle.event_ports.proofs.desk.Desk.submit_news.Goals as goal
 
-pub returns-then-shut_seen-clause-chain : goal.returns-then-shut_seen-clause-chain
-returns-then-shut_seen-clause-chain c =
-    let event = c.index-events-taken.result in
-    let look = c.shut_seen.ensures in
-    let new : event.op ≡ ops.New = sym c.op.ensures ∙ c.in-New.is in
-    let at : slice_get c.args.events.now c.loop-taken.taken ≡ Some event =
-    read_next c.args.events.now c.loop-taken.taken event (omega (arith, c.loop-taken-test.true, c.min.ensures, c.min-most.ensures)) c.index-events-taken.is in
-    record {
-      between = c.loop-taken.self;
-      taken = c.loop-taken.invariant.0;
-      ends = (
-        event,
-        at,
-        record {
-          site = look.site;
-          credit = look.credit;
-          rests = look.same.0;
-          why = (
-            ap costs_credit new,
-            look.seen.0 c.if-shut_seen.true,
-            look.same.1,
-            (λ _. inl (look.looked.0, look.looked.1 c.if-shut_seen.true)),
-            (λ more. absurd (not_more _ new more)),
-          );
-          stopped = λ _ _. refl;
-        },
-      );
-    }
+pub returns-then-count-eq0-clause-chain : goal.returns-then-count-eq0-clause-chain
+returns-then-count-eq0-clause-chain c =
+    let count = c.look_for_news-count.result.0 in
+    let over : LooksOver c.args.self.now c.args.replies.now 0 c.look_for_news-count.result.1 c.look_for_news-count.new.self =
+    subst (λ n. LooksOver c.args.self.now c.args.replies.now n c.look_for_news-count.result.1 c.look_for_news-count.new.self) c.if-count-eq0.true c.look_for_news-count.ensures.looked in
+    none_brought c.args.replies.now c.look_for_news-count.result.1 c.args.self.now c.look_for_news-count.new.self over
 
-pub loop-taken-preserved : goal.loop-taken-preserved
-loop-taken-preserved c =
-    let event = c.index-events-taken.result in
-    let was = c.loop-taken.invariant in
-    let look = c.shut_seen.ensures in
-    let new : event.op ≡ ops.New = sym c.op.ensures ∙ c.in-New.is in
-    let at : slice_get c.args.events.now c.loop-taken.taken ≡ Some event =
-    read_next c.args.events.now c.loop-taken.taken event (omega (arith, c.loop-taken-test.true, c.min.ensures, c.min-most.ensures)) c.index-events-taken.is in
-    let within : event.queue < (own_site c.loop-taken.self).queues = omega (arith, c.if-from-self.false, c.from.ensures, c.queue.ensures) in
-    let some : 0 < pocket_of c.shut_seen.new.self = omega (arith, c.loop-taken-test.true, was.1, look.same.1.0) in
-    let pocket : pocket_of c.shut_seen.new.self - 1 + 1 ≡ pocket_of c.shut_seen.new.self = omega (arith, some) in (
-      chain_taken c.args.events.now c.loop-taken.taken event c.args.self.now c.loop-taken.self _ at was.0
-          (new_taken c.loop-taken.self c.shut_seen.new.self _ event new within look.site look.credit look.same.0 look.same.1 look.looked.0 (look.read c.if-shut_seen.false)
-          (λ saw. false≢true (sym c.if-shut_seen.false ∙ look.seen.1 (look.credit.saw_shut saw))) some (ap (at_lanes (own_site c.shut_seen.new.self)) c.submit_new.ensures.site) refl pocket
-          c.submit_new.ensures.submitted),
-      omega (arith, some, was.1, look.same.1.0),
-      (search rules),
-    )
+pub bring_row-requires-clause-news : goal.bring_row-requires-clause-news
+bring_row-requires-clause-news c =
+    let looked = c.look_for_news-count.ensures.looked in
+    all_new (take c.look_for_news-count.result.0 c.args.replies.now) c.args.self.now looked.between looked.open_for
+
+pub bring_row-requires-clause-room : goal.bring_row-requires-clause-room
+bring_row-requires-clause-room c =
+    let count = c.look_for_news-count.result.0 in
+    let lanes = looks_lanes c.args.replies.now count c.look_for_news-count.result.1 c.args.self.now c.look_for_news-count.new.self c.look_for_news-count.ensures.looked in
+    omega (arith, length-take count c.args.replies.now, c.look_for_news-count.ensures.within, c.min-most.ensures, c.known_room.ensures, ap {B = ℕ} (λ (l : Lanes). room_left l.own) lanes)
+
+pub overflow_sub-self : goal.overflow_sub-self
+overflow_sub-self c =
+    let count = c.look_for_news-count.result.0 in
+    omega (arith, c.look_for_news-count.ensures.within, c.min-most.ensures, c.min.ensures, looks_pocket c.args.replies.now count c.look_for_news-count.result.1 c.args.self.now c.look_for_news-count.new.self c.look_for_news-count.ensures.looked)
+
+pub invariant_of-self : goal.invariant_of-self
+invariant_of-self c =
+    let was = c.look_for_news-count.new.self in
+    let count = c.look_for_news-count.result.0 in
+    let looked = c.look_for_news-count.ensures.looked in
+    let len : length (take count c.args.replies.now) ≡ count = counted count c.args.replies.now (omega (arith, c.look_for_news-count.ensures.within, c.min-most.ensures, c.min.ensures)) in
+    record {
+      seat_of = was.seat_of;
+      unset = was.unset;
+      quantum_fits = was.quantum_fits;
+      numbered = ap (λ (l : LanesSite). l.flows.port) c.bring_row.ensures.site ∙ was.numbered;
+      paid =
+          subst (λ n. IsPocket (was.pocket - n) ((account_of was).drawn + releases_of c.bring_row.new.self) ((account_of was).returned + news_of c.bring_row.new.self + mores_of c.bring_row.new.self)) len
+          (paid_row (take count c.args.replies.now) was.lanes c.bring_row.new.self was.pocket (account_of was).drawn (account_of was).returned
+          (all_new (take count c.args.replies.now) c.args.self.now looked.between looked.open_for)
+          (omega (arith, len, c.look_for_news-count.ensures.within, c.min-most.ensures, c.known_room.ensures, ap {B = ℕ} (λ (l : Lanes). room_left l.own) (looks_lanes c.args.replies.now count c.look_for_news-count.result.1 c.args.self.now was looked)))
+          (omega (arith, len, c.look_for_news-count.ensures.within, c.min-most.ensures, c.min.ensures, looks_pocket c.args.replies.now count c.look_for_news-count.result.1 c.args.self.now was looked))
+          c.bring_row.ensures was.paid);
+    }
 
 pub returns-clause-chain : goal.returns-clause-chain
 returns-clause-chain c =
-    record {
-      between = c.loop-taken.self;
-      taken = subst (λ n. EnqueuesAll (take n c.args.events.now) c.args.self.now c.loop-taken.self) (search rules) c.loop-taken.invariant.0;
-      ends = refl;
-    }
+    let was = c.look_for_news-count.new.self in
+    let count = c.look_for_news-count.result.0 in
+    let looked = c.look_for_news-count.ensures.looked in
+    let len : length (take count c.args.replies.now) ≡ count = counted count c.args.replies.now (omega (arith, c.look_for_news-count.ensures.within, c.min-most.ensures, c.min.ensures)) in
+    let lanes = looks_lanes c.args.replies.now count c.look_for_news-count.result.1 c.args.self.now was looked in
+    let pocket = looks_pocket c.args.replies.now count c.look_for_news-count.result.1 c.args.self.now was looked in
+    let spent : pocket_of was - count + length (take count c.args.replies.now) ≡ pocket_of c.args.self.now =
+    omega (arith, len, pocket, c.look_for_news-count.ensures.within, c.min-most.ensures, c.min.ensures) in
+    row_brought c.args.replies.now count c.args.self.now was _ (omega (arith, len, c.if-count-eq0.false))
+    (omega (arith, len, c.look_for_news-count.ensures.within, c.min-most.ensures, c.known_room.ensures)) spent
+    (ap (at_lanes (own_site was)) c.bring_row.ensures.site) refl c.look_for_news-count.result.1 looked
+    (subst (λ (l : Lanes). BringsRow (take count c.args.replies.now) l c.bring_row.new.self) lanes c.bring_row.ensures)

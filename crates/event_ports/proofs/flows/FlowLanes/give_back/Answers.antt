@@ -8,11 +8,10 @@ use Rattle.flow_claims.specs.declared.claims.Claims.{Claims}
 use Rattle.flow_claims.specs.declared.claim.Stint.{Stint}
 use Rattle.flow_claims.specs.Answers.{EndsStint}
 use Rattle.flow_claims.specs.Claims.{seating, claims_id, lanes_of}
-use Rattle.event_ports.specs.Holds.{entry_at, held_now, hidden_in, AreFlows, AreShown, Same}
+use Rattle.event_ports.specs.Holds.{entry_at, held_now, AreFlows, Same}
 use Rattle.event_ports.proofs.Claiming.{asks_same}
 use Rattle.event_ports.specs.Looks.{HasHeld}
 use Rattle.event_ports.proofs.Entries.{hands, place_read, place_there, same_list}
-use Rattle.event_ports.proofs.Shown.{none_set, touched_set}
 use Rattle.event_ports.proofs.Turns.{entries_back, ended, left_same, same_back}
 use Rattle.event_ports.proofs.Looks.{held_less}
 use Rattle.event_ports.proofs.flows.FlowLanes.give_back.Goals as goal
@@ -25,10 +24,8 @@ invariant_of-self-2 c =
     let Over : Claims → Type 0 = λ k. EndsStint k false c.in-Some.stint c.args.self.now.seat c.give_back.new.seat in
     let Are : Option Stint → Type 0 = λ o. AreFlows (arc_value c.args.self.now.claims) c.give_back.new.seat (set c.args.self.now.stints.items c.args.lane o) c.args.self.now.links.items in
     let Held : Option Stint → Type 0 = λ o. HasHeld c.remove.new.self (set c.args.self.now.stints.items c.args.lane o) in
-    let Shown : Option Stint → Type 0 = λ o. AreShown c.args.self.now.touched (set c.args.self.now.stints.items c.args.lane o) in
     record {
       are = subst Are (sym c.take.ensures.after) (ended _ _ c.args.self.now.seat c.give_back.new.seat _ _ c.in-Some.stint false c.args.self.now.are (subst Over c.deref.ensures c.give_back.ensures) at c.requires.exists);
-      shown = subst Shown (sym c.take.ensures.after) (touched_set c.args.self.now.touched c.args.self.now.stints.items c.args.lane None within (λ other. refl) c.args.self.now.shown);
       placed = c.args.self.now.placed;
       has_held = subst Held (sym c.take.ensures.after) (held_less c.args.self.now.held c.remove.new.self c.args.self.now.stints.items c.args.lane within c.remove.ensures.others c.args.self.now.has_held);
     }
@@ -50,8 +47,8 @@ invariant_of-self c =
     let within : c.args.lane < length f.stints.items = omega (arith, f.are.entries, c.requires.exists) in
     let back : set f.stints.items c.args.lane c.take.new.self ≡ f.stints.items =
     ap (set f.stints.items c.args.lane) c.take.ensures.after ∙ same_list _ _ _ (place_read _ _ _ _ c.index_mut.ensures.value (sym c.take.ensures.value ∙ c.in_default.is) within) in
-    let same = entries_back _ _ _ f.touched f.held _ _ back f.are f.shown f.has_held in
-    record { are = same.0; shown = same.1; placed = f.placed; has_held = same.2 }
+    let same = entries_back _ _ _ f.held _ _ back f.are f.has_held in
+    record { are = same.0; placed = f.placed; has_held = same.1 }
 
 pub returns-in_default-clause-same : goal.returns-in_default-clause-same
 returns-in_default-clause-same c =
@@ -70,12 +67,6 @@ returns-in_default-clause-left c =
 pub returns-in_default-clause-elsewhere : goal.returns-in_default-clause-elsewhere
 returns-in_default-clause-elsewhere c j ne = ap is_some (get_or-set_other c.args.self.now.stints.items c.args.lane j c.take.new.self None ne)
 
-pub returns-in_default-clause-shown : goal.returns-in_default-clause-shown
-returns-in_default-clause-shown c =
-    let f = c.args.self.now in
-    let within : c.args.lane < length f.stints.items = omega (arith, f.are.entries, c.requires.exists) in
-    none_set f.stints.items c.args.lane c.take.new.self within (ap hidden_in c.take.ensures.after)
-
 pub give_back-requires-clause-seat : goal.give_back-requires-clause-seat
 give_back-requires-clause-seat c =
     let seat_of = c.args.self.now.are.seat_of in
@@ -90,10 +81,6 @@ pub give_back-requires-clause-answered : goal.give_back-requires-clause-answered
 give_back-requires-clause-answered c =
     sym (ap held_now (place_there _ _ _ _ c.args.lane _ _ c.args.self.now.are c.requires.exists c.index_mut.ensures.value (sym c.take.ensures.value ∙ c.in-Some.is))) ∙ c.requires.answered
 
-pub give_back-requires-clause-shown : goal.give_back-requires-clause-shown
-give_back-requires-clause-shown c =
-    sym (ap hidden_in (place_there _ _ _ _ c.args.lane _ _ c.args.self.now.are c.requires.exists c.index_mut.ensures.value (sym c.take.ensures.value ∙ c.in-Some.is))) ∙ c.requires.shown
-
 pub returns-clause-left : goal.returns-clause-left
 returns-clause-left c =
     let f = c.args.self.now in
@@ -102,12 +89,6 @@ returns-clause-left c =
 
 pub returns-clause-elsewhere : goal.returns-clause-elsewhere
 returns-clause-elsewhere c j ne = ap is_some (get_or-set_other c.args.self.now.stints.items c.args.lane j c.take.new.self None ne)
-
-pub returns-clause-shown : goal.returns-clause-shown
-returns-clause-shown c =
-    let f = c.args.self.now in
-    let within : c.args.lane < length f.stints.items = omega (arith, f.are.entries, c.requires.exists) in
-    none_set f.stints.items c.args.lane c.take.new.self within (ap hidden_in c.take.ensures.after)
 
 pub returns-in_default-clause-asks : goal.returns-in_default-clause-asks
 returns-in_default-clause-asks c = asks_same _ _ refl

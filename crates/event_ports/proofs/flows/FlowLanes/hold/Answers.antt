@@ -6,7 +6,6 @@ use Rattle.flow_claims.specs.Claims.{seating, claims_id, lanes_of, IsSeatOf}
 use Rattle.event_ports.specs.Holds.{entry_at}
 use Rattle.event_ports.proofs.Claiming.{asks_same, claims_none, claims_one}
 use Rattle.event_ports.proofs.Entries.{nothing_there, place_read}
-use Rattle.event_ports.proofs.Shown.{none_set, touched_set}
 use Rattle.event_ports.proofs.Turns.{refused, claimed, claim_same}
 use Rattle.event_ports.proofs.Looks.{held_more}
 use Rattle.event_ports.proofs.flows.FlowLanes.hold.Goals as goal
@@ -19,21 +18,15 @@ invariant_of-self-2 c =
     record {
       are = claimed _ _ c.args.self.now.seat c.claim.new.seat _ _ _ c.args.self.now.are seat_of c.claim.ensures.port c.claim.ensures.finished c.claim.ensures.others
           c.requires.exists c.requires.linked got.0 got.3;
-      shown = touched_set c.args.self.now.touched c.args.self.now.stints.items c.args.lane (Some c.in-Held.stint) within (λ other. got.2.3) c.args.self.now.shown;
       placed = c.args.self.now.placed;
       has_held = held_more c.args.self.now.held c.add.new.self c.args.self.now.stints.items c.args.lane c.in-Held.stint within c.add.ensures.there c.add.ensures.others c.args.self.now.has_held;
     }
-
-pub returns-clause-shown : goal.returns-clause-shown
-returns-clause-shown c none =
-    let within : c.args.lane < length c.args.self.now.stints.items = omega (arith, c.args.self.now.are.entries, c.requires.exists) in
-    none_set c.args.self.now.stints.items c.args.lane (Some c.in-Held.stint) within c.in-Held.ensures.answer.2.3 none
 
 pub invariant_of-self-in_default : goal.invariant_of-self-in_default
 invariant_of-self-in_default c =
     let seat_of : IsSeatOf (arc_value c.args.self.now.claims) c.claim.new.seat = (c.claim.ensures.seat.0 ∙ ap claims_id c.deref.ensures, c.claim.ensures.seat.1 ∙ ap lanes_of c.deref.ensures) in
     let held : (seating c.claim.new.seat).held ≡ (seating c.args.self.now.seat).held = c.claim.ensures.refused c.in_default.not-Held in
-    record { are = refused _ _ c.args.self.now.seat c.claim.new.seat _ c.args.self.now.are seat_of c.claim.ensures.port held c.claim.ensures.finished; shown = c.args.self.now.shown; placed = c.args.self.now.placed; has_held = c.args.self.now.has_held }
+    record { are = refused _ _ c.args.self.now.seat c.claim.new.seat _ c.args.self.now.are seat_of c.claim.ensures.port held c.claim.ensures.finished; placed = c.args.self.now.placed; has_held = c.args.self.now.has_held }
 
 pub returns-clause-same : goal.returns-clause-same
 returns-clause-same c =

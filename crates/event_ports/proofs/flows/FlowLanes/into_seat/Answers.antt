@@ -14,14 +14,11 @@ returns-clause-none_open c =
     (none_at_all _ _ refl (λ j lt. c.loop-lane.invariant.2 j (omega (arith, end, lt))))
 
 pub loop-lane-init : goal.loop-lane-init
-loop-lane-init c = (refl, kept_none (hands_of c.args.self), (λ j lt. absurd (omega (arith, lt))), c.requires)
+loop-lane-init c = (refl, kept_none (hands_of c.args.self), (λ j lt. absurd (omega (arith, lt))))
 
-pub surrender-requires-clause-exists : goal.surrender-requires-clause-exists
-surrender-requires-clause-exists c =
+pub surrender-requires : goal.surrender-requires
+surrender-requires c =
     omega (arith, c.loop-lane-test.true, c.len-lane-end.ensures, c.args.self.are.entries, ap (λ (p : FlowSite). length (lanes_of p.claims)) c.loop-lane.invariant.0)
-
-pub surrender-requires-clause-shown : goal.surrender-requires-clause-shown
-surrender-requires-clause-shown c = c.loop-lane.invariant.3
 
 pub loop-lane-preserved : goal.loop-lane-preserved
 loop-lane-preserved c =
@@ -31,7 +28,6 @@ loop-lane-preserved c =
       c.surrender.ensures.site ∙ was.0,
       kept_more (hands_of c.args.self) before after was.1 c.surrender.ensures.kept,
       free_below before after c.loop-lane.lane was.2 c.surrender.ensures.free c.surrender.ensures.elsewhere,
-      c.surrender.ensures.shown,
     )
 
 pub returns-clause-seat : goal.returns-clause-seat

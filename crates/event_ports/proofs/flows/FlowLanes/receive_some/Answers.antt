@@ -4,10 +4,9 @@ use Rattle.std.proofs.lemmas.List.{get_or-set_same, get_or-set_other}
 use Rattle.std.specs.Option.{is_some}
 use Rattle.flow_claims.specs.Claims.{seating}
 use Rattle.event_ports.specs.Flows.{hands_of}
-use Rattle.event_ports.specs.Holds.{Brings, IsDrained, hidden_in, entry_at}
+use Rattle.event_ports.specs.Holds.{Brings, IsDrained, entry_at}
 use Rattle.event_ports.proofs.Calls.{brings_none}
 use Rattle.event_ports.proofs.Entries.{hands, place_read, same_list}
-use Rattle.event_ports.proofs.Shown.{none_set, same_hidden, touched_set}
 use Rattle.event_ports.proofs.Turns.{turned, brought}
 use Rattle.event_ports.proofs.Looks.{free_drained, held_same}
 use Rattle.event_ports.proofs.flows.FlowLanes.receive_some.Goals as goal
@@ -19,9 +18,6 @@ invariant_of-self-2 c =
     let at : entry_at c.args.self.now.stints.items c.args.lane ≡ Some c.in-Some.stint = place_read _ _ _ _ c.index_mut.ensures.value c.in-Some.is within in
     record {
       are = turned _ _ c.args.self.now.seat _ _ c.in-Some.stint _ are at c.requires.exists c.receive_waiting-some_left.ensures.lane.0 (c.receive_waiting-some_left.ensures.open _);
-      shown = touched_set c.args.self.now.touched c.args.self.now.stints.items c.args.lane (Some c.receive_waiting-some_left.new.self) within
-          (same_hidden c.args.self.now.touched c.args.self.now.stints.items c.args.lane (Some c.in-Some.stint) (Some c.receive_waiting-some_left.new.self) at c.receive_waiting-some_left.ensures.far.2 c.args.self.now.shown)
-          c.args.self.now.shown;
       placed = c.args.self.now.placed;
       has_held = held_same c.args.self.now.held c.args.self.now.stints.items c.args.lane _ (Some c.receive_waiting-some_left.new.self) within at refl c.args.self.now.has_held;
     }
@@ -33,13 +29,6 @@ returns-clause-lists c =
     let at : entry_at c.args.self.now.stints.items c.args.lane ≡ Some c.in-Some.stint = place_read _ _ _ _ c.index_mut.ensures.value c.in-Some.is within in
     brought _ _ c.args.self.now.seat _ _ c.in-Some.stint c.receive_waiting-some_left.new.self are at c.requires.exists c.args.into.now.items c.receive_waiting-some_left.new.into.items
     ((are.each c.args.lane).held c.in-Some.stint at).open_is c.receive_waiting-some_left.ensures.came c.receive_waiting-some_left.ensures.so_far c.receive_waiting-some_left.ensures.answered c.receive_waiting-some_left.ensures.far.1
-
-pub returns-clause-shown : goal.returns-clause-shown
-returns-clause-shown c none =
-    let are = c.args.self.now.are in
-    let within : c.args.lane < length c.args.self.now.stints.items = omega (arith, are.entries, c.requires.exists) in
-    let at : entry_at c.args.self.now.stints.items c.args.lane ≡ Some c.in-Some.stint = place_read _ _ _ _ c.index_mut.ensures.value c.in-Some.is within in
-    none_set c.args.self.now.stints.items c.args.lane (Some c.receive_waiting-some_left.new.self) within (c.receive_waiting-some_left.ensures.far.2 ∙ ap hidden_in (sym at) ∙ none c.args.lane) none
 
 pub returns-in_default-clause-lists : goal.returns-in_default-clause-lists
 returns-in_default-clause-lists c =

@@ -1,5 +1,5 @@
 -- So many are fewer, where what came was noted.
-use Rattle.std.proofs.Common.{◌≡◌, ◌≤◌, true, drop, sym, ap, ◌∙◌, arith}
+use Rattle.std.proofs.Common.{◌≡◌, true, drop, sym, ap, ◌∙◌, arith}
 use Rattle.event_ports.specs.HeldRings.{Held}
 use Rattle.event_ports.proofs.Rings.{fewer_held, flag_clash, held_within}
 use Rattle.event_ports.proofs.held_ring.HeldRing.drop_row.Goals as goal

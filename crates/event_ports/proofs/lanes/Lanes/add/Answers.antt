@@ -50,10 +50,10 @@ returns-in-Own-clause-refused c =
     let some : unanswered c.args.self.now.own ≢ [] = first_open (held_in c.args.self.now.own c.args.self.now.order) Own (open_on c.args.self.now.own (hands_of c.args.self.now.flows)) own c.args.self.now.ordered in
     let few : extras_of (answered c.args.self.now.own) < MAX_EXTRAS = subst (λ o. extras_to o (hand_of c.args.self.now) < MAX_EXTRAS) own c.requires.takes.1 in
     let r = reply_of c.args.event.now in
-    let still : first_lane (held_in c.stage.new.self c.args.self.now.order) ≡ Some Own =
-    ap first_lane (still_held c.args.self.now.own c.stage.new.self c.args.self.now.order (keeps_open c.args.self.now.own c.stage.new.self r c.stage.result (no_answer r c.requires.more) c.stage.ensures.held)) ∙ own in
-    subst (λ o. IfErr c.stage.result (λ e. (e ≡ Full) × IsFilledAt c.stage.new.self (hands_of c.args.self.now.flows) o)) (sym still)
-    (all_full c.args.self.now.own c.stage.new.self (reply_of c.args.event.now) c.stage.result c.stage.ensures.refused some (λ _. few) c.stage.ensures.lane c.stage.ensures.answered)
+    let still : first_lane (held_in c.submit.new.self c.args.self.now.order) ≡ Some Own =
+    ap first_lane (still_held c.args.self.now.own c.submit.new.self c.args.self.now.order (keeps_open c.args.self.now.own c.submit.new.self r c.submit.result (no_answer r c.requires.more) c.submit.ensures.held)) ∙ own in
+    subst (λ o. IfErr c.submit.result (λ e. (e ≡ Full) × IsFilledAt c.submit.new.self (hands_of c.args.self.now.flows) o)) (sym still)
+    (all_full c.args.self.now.own c.submit.new.self (reply_of c.args.event.now) c.submit.result c.submit.ensures.refused some (λ _. few) c.submit.ensures.lane c.submit.ensures.answered)
 
 pub returns-in-Flow-clause-submitted : goal.returns-in-Flow-clause-submitted
 returns-in-Flow-clause-submitted c =
@@ -71,8 +71,8 @@ invariant_of-self c =
     let was = c.args.self.now in
     let r = reply_of c.args.event.now in
     record {
-      depth = (was.depth.0 ∙ sym (ap (λ (i : LaneId). i.depth) c.stage.ensures.lane), was.depth.1);
-      ordered = still_ordered was.own c.stage.new.self (hands_of was.flows) was.order (keeps_open was.own c.stage.new.self r c.stage.result (no_answer r c.requires.more) c.stage.ensures.held) was.ordered;
+      depth = (was.depth.0 ∙ sym (ap (λ (i : LaneId). i.depth) c.submit.ensures.lane), was.depth.1);
+      ordered = still_ordered was.own c.submit.new.self (hands_of was.flows) was.order (keeps_open was.own c.submit.new.self r c.submit.result (no_answer r c.requires.more) c.submit.ensures.held) was.ordered;
       gave_back = was.gave_back;
       no_new = was.no_new;
       added = was.added;
@@ -83,11 +83,11 @@ invariant_of-self c =
 pub returns-in-Own-clause-submitted : goal.returns-in-Own-clause-submitted
 returns-in-Own-clause-submitted c =
     let was = c.args.self.now in
-    let own = c.stage.new.self in
+    let own = c.submit.new.self in
     let hands = hands_of was.flows in
     let r = reply_of c.args.event.now in
     let none = no_answer r c.requires.more in
     let before = over was.own (held_in was.own was.order) hands in
     let after = over own (held_in own was.order) hands in
-    subst (λ o. MatchResult c.stage.result (λ _. SubmitsTo o r before after) (λ _. Rests before after)) (sym (sym c.in-Some.ensures ∙ ap Some c.in-Own.is))
-    (submits_own was.own own hands was.order r c.stage.result none c.stage.ensures.received.0 c.stage.ensures.answered (keeps_open was.own own r c.stage.result none c.stage.ensures.held))
+    subst (λ o. MatchResult c.submit.result (λ _. SubmitsTo o r before after) (λ _. Rests before after)) (sym (sym c.in-Some.ensures ∙ ap Some c.in-Own.is))
+    (submits_own was.own own hands was.order r c.submit.result none c.submit.ensures.received.0 c.submit.ensures.answered (keeps_open was.own own r c.submit.result none c.submit.ensures.held))

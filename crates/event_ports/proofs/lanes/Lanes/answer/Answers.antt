@@ -26,18 +26,18 @@ use Rattle.event_ports.proofs.lanes.Lanes.answer.Goals as goal
 pub invariant_of-self-clause-ordered : goal.invariant_of-self-clause-ordered
 invariant_of-self-clause-ordered c =
     let before : Lane → List Delivery = open_on c.args.self.now.own (hands_of c.args.self.now.flows) in
-    let after : Lane → List Delivery = open_on c.stage.new.self (hands_of c.args.self.now.flows) in
+    let after : Lane → List Delivery = open_on c.submit.new.self (hands_of c.args.self.now.flows) in
     let here : after Own ≡ drop 1 (before Own) = c.in-Ok.ensures.held ∙ ap (λ n. drop n (before Own)) (one_answer (reply_of c.args.event.now) c.requires) in
     let others : (l : Lane) → l ≢ Own → after l ≡ before l = each_lane (λ l. l ≢ Own → after l ≡ before l) (λ ne. absurd (ne refl)) (λ j ne. refl) in
     let To : List Holding → Type 0 = λ xs. Notes xs after in
-    subst To (sym (held_dropped 1 c.args.self.now.own c.stage.new.self c.args.self.now.order c.drop_row.new.self here c.drop_row.ensures.notes c.drop_row.ensures.dropped)) (answered_first (held_in c.args.self.now.own c.args.self.now.order) Own before after (sym c.in-Some.ensures ∙ ap Some c.in-Own.is) here others c.args.self.now.ordered)
+    subst To (sym (held_dropped 1 c.args.self.now.own c.submit.new.self c.args.self.now.order c.drop_row.new.self here c.drop_row.ensures.notes c.drop_row.ensures.dropped)) (answered_first (held_in c.args.self.now.own c.args.self.now.order) Own before after (sym c.in-Some.ensures ∙ ap Some c.in-Own.is) here others c.args.self.now.ordered)
 
 pub invariant_of-self-in-Err-1 : goal.invariant_of-self-in-Err-1
 invariant_of-self-in-Err-1 c =
     let was = c.args.self.now in
     record {
-      depth = (was.depth.0 ∙ sym (ap (λ (i : LaneId). i.depth) c.stage.ensures.lane), was.depth.1);
-      ordered = still_ordered was.own c.stage.new.self (hands_of was.flows) was.order c.in-Err.ensures.held was.ordered;
+      depth = (was.depth.0 ∙ sym (ap (λ (i : LaneId). i.depth) c.submit.ensures.lane), was.depth.1);
+      ordered = still_ordered was.own c.submit.new.self (hands_of was.flows) was.order c.in-Err.ensures.held was.ordered;
       gave_back = was.gave_back;
       no_new = was.no_new;
       added = was.added;
@@ -76,11 +76,11 @@ returns-in-Err-answer_oldest-clause-submitted c =
 pub returns-in-Err-clause-refused : goal.returns-in-Err-clause-refused
 returns-in-Err-clause-refused c =
     let was = c.args.self.now in
-    let own = c.stage.new.self in
+    let own = c.submit.new.self in
     let first : first_lane (held_in was.own was.order) ≡ Some Own = sym c.in-Some.ensures ∙ ap Some c.in-Own.is in
     let some : unanswered was.own ≢ [] = first_open (held_in was.own was.order) Own (open_on was.own (hands_of was.flows)) first was.ordered in
     let still : first_lane (held_in own was.order) ≡ Some Own = ap first_lane (still_held was.own own was.order c.in-Err.ensures.held) ∙ first in
-    refused_own own was.own (hands_of was.flows) (held_in own was.order) (reply_of c.args.event.now) c.in-Err.fault c.requires c.in-Err.ensures.refused some still c.stage.ensures.lane c.in-Err.ensures.answered
+    refused_own own was.own (hands_of was.flows) (held_in own was.order) (reply_of c.args.event.now) c.in-Err.fault c.requires c.in-Err.ensures.refused some still c.submit.ensures.lane c.in-Err.ensures.answered
 
 pub answer_oldest-requires-clause-held : goal.answer_oldest-requires-clause-held
 answer_oldest-requires-clause-held c =
@@ -150,13 +150,13 @@ pub returns-in-Ok-clause-submitted : goal.returns-in-Ok-clause-submitted
 returns-in-Ok-clause-submitted c =
     let own = c.args.self.now.own in
     let flows = hands_of c.args.self.now.flows in
-    let after : Hand = record { said = said_on c.stage.new.self flows; got = got_on c.stage.new.self flows; holding = held_in c.stage.new.self c.drop_row.new.self } in
+    let after : Hand = record { said = said_on c.submit.new.self flows; got = got_on c.submit.new.self flows; holding = held_in c.submit.new.self c.drop_row.new.self } in
     subst (λ o. SubmitsTo o (reply_of c.args.event.now) (hand_of c.args.self.now) after) (sym (sym c.in-Some.ensures ∙ ap Some c.in-Own.is))
     (record {
       said_here = c.in-Ok.ensures.answered;
       said = each_lane (λ l. l ≢ Own → after.said l ≡ said_on own flows l) (λ ne. absurd (ne refl)) (λ j ne. refl);
-      got = each_lane (λ l. after.got l ≡ got_on own flows l) c.stage.ensures.received.0 (λ j. refl);
-      holding = held_dropped 1 own c.stage.new.self c.args.self.now.order c.drop_row.new.self (c.in-Ok.ensures.held ∙ ap (λ n. drop n (unanswered own)) (one_answer (reply_of c.args.event.now) c.requires)) c.drop_row.ensures.notes c.drop_row.ensures.dropped
+      got = each_lane (λ l. after.got l ≡ got_on own flows l) c.submit.ensures.received.0 (λ j. refl);
+      holding = held_dropped 1 own c.submit.new.self c.args.self.now.order c.drop_row.new.self (c.in-Ok.ensures.held ∙ ap (λ n. drop n (unanswered own)) (one_answer (reply_of c.args.event.now) c.requires)) c.drop_row.ensures.notes c.drop_row.ensures.dropped
           ∙ ap (λ n. drop n (held_in own c.args.self.now.order)) (sym (one_answer (reply_of c.args.event.now) c.requires));
     })
 

@@ -1,6 +1,5 @@
 -- The oldest that was noted, or the own lane's.
-use Rattle.std.proofs.Common.{◌≡◌, ◌<◌, false, true, length, sym, ap, ◌∙◌, arith}
-use Rattle.lane_rings.specs.Ends.{unanswered}
+use Rattle.std.proofs.Common.{sym, ◌∙◌, arith}
 use Rattle.event_ports.proofs.HeldIn.{none_first, own_first}
 use Rattle.event_ports.proofs.lanes.Lanes.first.Goals as goal
 

@@ -1,5 +1,5 @@
 -- As many as were noted, or as are unanswered of the own lane.
-use Rattle.std.proofs.Common.{◌≡◌, false, true, length, sym, ap, ◌∙◌, arith}
+use Rattle.std.proofs.Common.{length, sym, ap, ◌∙◌, arith}
 use Rattle.event_ports.proofs.HeldIn.{held_noted, length_unnoted}
 use Rattle.event_ports.proofs.lanes.Lanes.held.Goals as goal
 

@@ -12,7 +12,7 @@ use Rattle.event_ports.proofs.lanes.Lanes.new.Goals as goal
 
 pub returns-clause-empty : goal.returns-clause-empty
 returns-clause-empty c =
-    let flows = c.requires.flows.0 in
+    let flows = c.requires.flows in
     record {
       said = each_lane (λ l. said_on c.args.own (hands_of c.args.flows) l ≡ []) c.requires.own.1 flows.answered_is;
       got = each_lane (λ l. got_on c.args.own (hands_of c.args.flows) l ≡ []) c.requires.own.0 flows.received;
@@ -22,6 +22,6 @@ returns-clause-empty c =
 pub returns-clause-none : goal.returns-clause-none
 returns-clause-none c =
     let said = said_on c.args.own (hands_of c.args.flows) in
-    let none : (l : Lane) → said l ≡ [] = each_lane (λ l. said l ≡ []) c.requires.own.1 c.requires.flows.0.answered_is in
+    let none : (l : Lane) → said l ≡ [] = each_lane (λ l. said l ≡ []) c.requires.own.1 c.requires.flows.answered_is in
     let n = length (lanes_of (flow_site c.args.flows).claims) in
     (counts_zero is_new_reply n said none, counts_zero is_more_reply n said none, counts_zero is_release_reply n said none)

@@ -61,7 +61,7 @@ first c =
     subst (λ (ds : List Delivery). ArrivesFrom (Own ∷ []) (hand_of c.args.self.now) (mid c) ds c.receive_some.new.into.items) c.requires
     (arrives_some Own _ _ c.args.into.now.items c.receive_some.new.into.items came.came
     (record {
-      said = each_lane (λ l. said_on c.receive_some.new.self (hands_of c.args.self.now.flows) l ≡ said_on c.args.self.now.own (hands_of c.args.self.now.flows) l) c.receive_some.ensures.answered.0 (λ j. refl);
+      said = each_lane (λ l. said_on c.receive_some.new.self (hands_of c.args.self.now.flows) l ≡ said_on c.args.self.now.own (hands_of c.args.self.now.flows) l) c.receive_some.ensures.answered (λ j. refl);
       got_here = came.received;
       got = each_lane (λ l. l ≢ Own → got_on c.receive_some.new.self (hands_of c.args.self.now.flows) l ≡ got_on c.args.self.now.own (hands_of c.args.self.now.flows) l) (λ ne. absurd (ne refl)) (λ j ne. refl);
       holding = came_own c.args.self.now.own c.receive_some.new.self c.args.self.now.order c.note.new.self c.args.into.now.items c.receive_some.new.into.items came.came c.requires came.array came.held c.note.ensures.notes c.note.ensures.noted;
@@ -78,7 +78,7 @@ both c =
 pub returns-clause-counts : goal.returns-clause-counts
 returns-clause-counts c =
     counts_then c.args.self.now _ _ c.receive_flows.ensures.counts
-    (counts_same c.args.self.now _ refl (each_lane (λ l. said_on c.receive_some.new.self (hands_of c.args.self.now.flows) l ≡ said_on c.args.self.now.own (hands_of c.args.self.now.flows) l) c.receive_some.ensures.answered.0 (λ j. refl)))
+    (counts_same c.args.self.now _ refl (each_lane (λ l. said_on c.receive_some.new.self (hands_of c.args.self.now.flows) l ≡ said_on c.args.self.now.own (hands_of c.args.self.now.flows) l) c.receive_some.ensures.answered (λ j. refl)))
 
 pub returns-clause-arrived : goal.returns-clause-arrived
 returns-clause-arrived c = arrives (links_of c.args.self.now) (hand_of c.args.self.now) (hand_of c.receive_flows.new.self) [] c.receive_flows.new.into.items (both c)

@@ -108,9 +108,6 @@ returns-then-not-hold-clause-counts c =
 pub returns-then-not-hold-clause-site : goal.returns-then-not-hold-clause-site
 returns-then-not-hold-clause-site c i = record { own = far_id c.args.self.now.own; flows = c.hold.ensures.site i; depth = c.args.self.now.order.capacity }
 
-pub returns-then-not-hold-clause-shown : goal.returns-then-not-hold-clause-shown
-returns-then-not-hold-clause-shown c all = record { own = all.own; flows = c.hold.ensures.shown all.flows }
-
 pub receive_some-requires-clause-exists : goal.receive_some-requires-clause-exists
 receive_some-requires-clause-exists c = omega (arith, c.requires.readable.0, ap (λ (p : FlowSite). length (lanes_of p.claims)) c.hold.ensures.site)
 
@@ -126,9 +123,6 @@ returns-clause-site c i = record {
 
 pub returns-clause-none : goal.returns-clause-none
 returns-clause-none c full = absurd (omega (arith, full, c.len.ensures.len, c.if-len-most.false))
-
-pub returns-clause-shown : goal.returns-clause-shown
-returns-clause-shown c all = record { own = all.own; flows = c.leave_unless.ensures.shown (c.receive_some.ensures.shown (c.hold.ensures.shown all.flows)) }
 
 pub hold-requires-clause-exists : goal.hold-requires-clause-exists
 hold-requires-clause-exists c = c.requires.readable.0

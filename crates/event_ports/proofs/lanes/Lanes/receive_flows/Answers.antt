@@ -33,7 +33,6 @@ loop-position-init c = record {
       (λ i l le below there. c.next_link-position.ensures.passed i l le below there (omega (arith, few, c.saturating_sub-wanted.ensures, c.len.ensures.len))) j lane (omega arith) lt at;
   none = λ full. refl;
   others = refl;
-  shown = λ all. all;
   notes = sym c.notes.ensures ∙ c.if-not-notes.false;
 }
 
@@ -78,7 +77,6 @@ loop-position-preserved c =
           (passed_done set links c.loop-position.worthy.left (c.loop-position.position + 1) next.result after (λ j lane le. still j lane (omega (arith, le))) passed);
       none = λ full. c.receive_flow.ensures.none (ap length (was.none full) ∙ full) ∙ was.none full;
       others = c.receive_flow.ensures.others ∙ was.others;
-      shown = λ all. c.receive_flow.ensures.shown (was.shown all);
       notes = c.receive_flow.ensures.notes ∙ was.notes;
     }
 

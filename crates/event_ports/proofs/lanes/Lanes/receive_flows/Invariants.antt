@@ -3,7 +3,7 @@ use Rattle.event_ports.specs.declared.lane.Lane.TheVariants.{Flow}
 use Rattle.event_ports.specs.Claiming.{ClaimsEach}
 use Rattle.event_ports.specs.Flows.{linked_of}
 use Rattle.event_ports.specs.Lanes.{ArrivesFrom, HasRoomFor}
-use Rattle.event_ports.specs.Handed.{lanes_site, links_of, flow_hands, seating_of, seen_own, hand_of, AllShown, CountsNone}
+use Rattle.event_ports.specs.Handed.{lanes_site, links_of, flow_hands, seating_of, seen_own, hand_of, CountsNone}
 use Rattle.event_ports.proofs.Reading.{AreAhead, AreDone}
 use Rattle.event_ports.proofs.lanes.Lanes.receive_flows.Given as goal
 
@@ -21,7 +21,6 @@ invariant-loop-position l = record {
   done : length l.into.items < l.most → AreDone (links_of l.fn.self) l.position (flow_hands l.self);
   none : length l.fn.into.items ≡ l.most → l.into.items ≡ l.fn.into.items;
   others : seen_own l.self ≡ seen_own l.fn.self;
-  shown : AllShown l.fn.self → AllShown l.self;
   notes : l.self.order.notes ≡ true;
 }
 

@@ -16,9 +16,9 @@ invariant_of-self c =
     let was = c.args.self.now in
     let r = reply_of c.args.event.now in
     record {
-      depth = (was.depth.0 ∙ sym (ap (λ (i : LaneId). i.depth) c.stage.ensures.lane), was.depth.1);
-      ordered = still_ordered was.own c.stage.new.self (hands_of was.flows) was.order
-          (keeps_open was.own c.stage.new.self r c.stage.result (new_answers_none r (ap is_new_op (sym c.op.ensures ∙ c.in-New.is))) c.stage.ensures.held) was.ordered;
+      depth = (was.depth.0 ∙ sym (ap (λ (i : LaneId). i.depth) c.submit.ensures.lane), was.depth.1);
+      ordered = still_ordered was.own c.submit.new.self (hands_of was.flows) was.order
+          (keeps_open was.own c.submit.new.self r c.submit.result (new_answers_none r (ap is_new_op (sym c.op.ensures ∙ c.in-New.is))) c.submit.ensures.held) was.ordered;
       gave_back = was.gave_back;
       no_new = was.no_new;
       added = was.added;
@@ -29,15 +29,15 @@ invariant_of-self c =
 pub returns-in-New-clause-submitted : goal.returns-in-New-clause-submitted
 returns-in-New-clause-submitted c =
     let was = c.args.self.now in
-    let own = c.stage.new.self in
+    let own = c.submit.new.self in
     let hands = hands_of was.flows in
     let r = reply_of c.args.event.now in
     let new : c.args.event.now.op ≡ ops.New = sym c.op.ensures ∙ c.in-New.is in
     let none = new_answers_none r (ap is_new_op new) in
     let before = over was.own (held_in was.own was.order) hands in
     let after = over own (held_in own was.order) hands in
-    subst (λ (o : Op). MatchResult c.stage.result (λ _. SubmitsTo (lane_for o before.holding) r before after) (λ _. Rests before after)) (sym new)
-    (submits_own was.own own hands was.order r c.stage.result none c.stage.ensures.received.0 c.stage.ensures.answered (keeps_open was.own own r c.stage.result none c.stage.ensures.held))
+    subst (λ (o : Op). MatchResult c.submit.result (λ _. SubmitsTo (lane_for o before.holding) r before after) (λ _. Rests before after)) (sym new)
+    (submits_own was.own own hands was.order r c.submit.result none c.submit.ensures.received.0 c.submit.ensures.answered (keeps_open was.own own r c.submit.result none c.submit.ensures.held))
 
 pub returns-in-New-clause-counts : goal.returns-in-New-clause-counts
-returns-in-New-clause-counts c = counts_own c.args.self.now _ (reply_of c.args.event.now) c.stage.result refl c.stage.ensures.answered
+returns-in-New-clause-counts c = counts_own c.args.self.now _ (reply_of c.args.event.now) c.submit.result refl c.submit.ensures.answered

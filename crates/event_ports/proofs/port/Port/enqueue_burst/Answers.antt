@@ -1,27 +1,25 @@
--- What was submitted is submitted once it is visible.
-use Rattle.std.proofs.Common.{take, sym, subst}
-use Rattle.event_ports.specs.Lanes.{Hand, SubmitsAll}
-use Rattle.event_ports.specs.Ports.{hand}
-use Rattle.event_ports.proofs.Flushes.{still_stops, bursts_then}
+-- What a burst says follows from the chain of its single calls.
+use Rattle.event_ports.proofs.Chains.{bursts_names, bursts_site, bursts_stays, bursts_stops, bursts_submits}
 use Rattle.event_ports.proofs.IdleLanes.{idle_lanes, staffed_lanes}
 use Rattle.event_ports.proofs.port.Port.enqueue_burst.Goals as goal
 
 pub invariant_of-self-clause-idle : goal.invariant_of-self-clause-idle
-invariant_of-self-clause-idle c = idle_lanes c.flush.new.self.lanes
+invariant_of-self-clause-idle c = idle_lanes c.submit_events-answer.new.self.lanes
 
 pub invariant_of-self-clause-staffed : goal.invariant_of-self-clause-staffed
-invariant_of-self-clause-staffed c = staffed_lanes c.flush.new.self.lanes
+invariant_of-self-clause-staffed c = staffed_lanes c.submit_events-answer.new.self.lanes
+
+pub returns-clause-site : goal.returns-clause-site
+returns-clause-site c = bursts_site c.args.events.now c.submit_events-answer.result.0 c.submit_events-answer.result.1 c.args.self.now.desk c.submit_events-answer.new.self c.submit_events-answer.ensures.chain
+
+pub returns-clause-credit : goal.returns-clause-credit
+returns-clause-credit c = bursts_stays c.args.events.now c.submit_events-answer.result.0 c.submit_events-answer.result.1 c.args.self.now.desk c.submit_events-answer.new.self c.submit_events-answer.ensures.chain
 
 pub returns-clause-submitted : goal.returns-clause-submitted
-returns-clause-submitted c =
-    subst (λ (k : Hand). SubmitsAll (take c.submit_burst-answer.result.0 c.args.events.now) (hand c.args.self.now) k) (sym c.flush.ensures.flushed.hands) c.submit_burst-answer.ensures.submitted
+returns-clause-submitted c = bursts_submits c.args.events.now c.submit_events-answer.result.0 c.submit_events-answer.result.1 c.args.self.now.desk c.submit_events-answer.new.self c.submit_events-answer.ensures.chain
+
+pub returns-clause-there : goal.returns-clause-there
+returns-clause-there c = bursts_names c.args.events.now c.submit_events-answer.result.0 c.submit_events-answer.result.1 c.args.self.now.desk c.submit_events-answer.new.self c.submit_events-answer.ensures.chain
 
 pub returns-clause-refused : goal.returns-clause-refused
-returns-clause-refused c =
-    still_stops c.submit_burst-answer.new.self c.flush.new.self c.flush.ensures.flushed c.args.self.now.desk c.args.events.now
-    c.submit_burst-answer.result.0 c.submit_burst-answer.result.1 c.submit_burst-answer.ensures.refused
-
-pub returns-clause-singly : goal.returns-clause-singly
-returns-clause-singly c =
-    bursts_then c.submit_burst-answer.new.self c.flush.new.self c.flush.ensures.flushed c.args.self.now.desk c.args.events.now
-    c.submit_burst-answer.result.0 c.submit_burst-answer.result.1 c.submit_burst-answer.ensures.chain
+returns-clause-refused c = bursts_stops c.args.events.now c.submit_events-answer.result.0 c.submit_events-answer.result.1 c.args.self.now.desk c.submit_events-answer.new.self c.submit_events-answer.ensures.chain

@@ -14,9 +14,6 @@ returns-clause-far c =
     subst (λ far. AnswersWith far c.args.reply c.answer.result c.answer.new.self) (c.deref_mut.ensures.value ∙ c.far.view_is)
     (record { lane = got.lane; received = got.received; answered_is = got.answered; held = got.held; nothing_held = got.nothing_held; too_many = got.too_many; refused = got.refused })
 
-pub returns-clause-shown : goal.returns-clause-shown
-returns-clause-shown c = c.answer.ensures.shown
-
 pub returns-clause-lane : goal.returns-clause-lane
 returns-clause-lane c = (refl, refl)
 

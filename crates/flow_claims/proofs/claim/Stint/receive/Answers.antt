@@ -23,7 +23,7 @@ pub returns-clause-open : goal.returns-clause-open
 returns-clause-open c v is =
     let got = returns-clause-far c in
     open_still v c.args.self.now _ refl refl got.lane
-    (λ goes. received_goes_on (start_in (stint_at v c.args.self.now.lane)) c.args.self.now.far c.receive.new.self c.receive.result goes got.answered_is.0 got.received) is
+    (λ goes. received_goes_on (start_in (stint_at v c.args.self.now.lane)) c.args.self.now.far c.receive.new.self c.receive.result goes got.answered_is got.received) is
 
 pub returns-clause-lane : goal.returns-clause-lane
 returns-clause-lane c = (refl, refl)
@@ -32,4 +32,4 @@ pub returns-clause-so_far : goal.returns-clause-so_far
 returns-clause-so_far c v is = received_more (start_in (stint_at v c.args.self.now.lane)) c.args.self.now.far c.receive.new.self c.receive.result is.goes_on (returns-clause-far c).received
 
 pub returns-clause-answered : goal.returns-clause-answered
-returns-clause-answered c v = ap (drop (length (start_in (stint_at v c.args.self.now.lane)).answered)) (returns-clause-far c).answered_is.0
+returns-clause-answered c v = ap (drop (length (start_in (stint_at v c.args.self.now.lane)).answered)) (returns-clause-far c).answered_is

@@ -37,7 +37,7 @@ store-requires c =
       omega (arith, c.args.self.now.words, there, ap length c.requires.seat.1),
       finishes _ _ _ _ _ _ _ o.begun (without c.args.stint.lane v.held) c.args.stint.far (omega (arith, parts, c.args.seat.now.has_part)) (ap (λ x. x.held) is.view) is.slots
           (found_lane c.args.stint.lane v.held o.begun o.at) o.number (omega (arith, there, ap length c.requires.seat.1))
-          o.goes_on (subst Of c.requires.seat.1 c.requires.open.of_lane) c.requires.shown c.requires.tail,
+          o.goes_on (subst Of c.requires.seat.1 c.requires.open.of_lane) c.requires.tail,
     )
 
 pub returns : goal.returns

@@ -11,5 +11,5 @@ loop-round-preserved c =
       omega (arith, was.0, ap length pushed, length-append c.loop-round.ends.items (c.in_ok-_near.far ∷ [])),
       c.push_reserved.ensures.capacity ∙ was.1,
       subst (All IsUnused) (sym pushed)
-          (All-push IsUnused c.loop-round.ends.items c.in_ok-_near.far was.2 (c.in_ok-_near.ensures.far.0, c.in_ok-_near.ensures.far.2, c.in_ok-_near.ensures.far.3)),
+          (All-push IsUnused c.loop-round.ends.items c.in_ok-_near.far was.2 (c.in_ok-_near.ensures.far.0, c.in_ok-_near.ensures.far.2)),
     )

@@ -32,3 +32,4 @@ pub mod LastStints
 pub mod Chains
 pub mod OwnRows
 pub mod NewRows
+pub mod ReleaseRows

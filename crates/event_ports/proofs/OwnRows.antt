@@ -49,11 +49,11 @@ are_own zero xs within all = tt
 are_own (suc n) [] within all = absurd (omega (arith, within))
 are_own (suc n) (x ∷ xs) within all = (all 0 x (omega arith), are_own n xs (omega (arith, within)) (λ k d lt. all (suc k) d (omega (arith, lt))))
 
-first_own : (n : ℕ) (xs : List Holding) → AreOwn (suc n) xs → first_lane xs ≡ Some Own
+pub first_own : (n : ℕ) (xs : List Holding) → AreOwn (suc n) xs → first_lane xs ≡ Some Own
 first_own n [] own = absurd own
 first_own n (x ∷ xs) own = ap Some own.0
 
-rest_own : (n : ℕ) (xs : List Holding) → AreOwn (suc n) xs → AreOwn n (drop 1 xs)
+pub rest_own : (n : ℕ) (xs : List Holding) → AreOwn (suc n) xs → AreOwn n (drop 1 xs)
 rest_own n [] own = absurd own
 rest_own n (x ∷ xs) own = own.1
 
@@ -98,7 +98,7 @@ some_there (x ∷ xs) some = omega arith
 
 -- ---- the lanes after one answer
 
-lanes_step : (a : Lanes) (reply : Reply) → is_answer reply ≡ true → first_lane (hand_of a).holding ≡ Some Own → 0 < room_left a.own
+pub lanes_step : (a : Lanes) (reply : Reply) → is_answer reply ≡ true → first_lane (hand_of a).holding ≡ Some Own → 0 < room_left a.own
     → (b : Lanes) × AnswersRow (reply ∷ []) a b × (room_left b.own + 1 ≡ room_left a.own)
 lanes_step a reply ends first room =
     let before : Lane → List Delivery = open_on a.own (hands_of a.flows) in
@@ -243,18 +243,21 @@ brought_first : (reply : Reply) (replies : List Reply) → brought (reply ∷ re
 brought_first reply replies = omega arith
 
 -- the rest of a row, behind its first
+pub rest_answered : (reply : Reply) (replies : List Reply) (a b c : Lanes) → AnswersRow (reply ∷ []) a b → AnswersRow (reply ∷ replies) a c → AnswersRow replies b c
+rest_answered reply replies a b c one row = record {
+  site = row.site ∙ sym one.site;
+  flows = row.flows ∙ sym one.flows;
+  got = row.got ∙ sym one.got;
+  said = row.said ∙ sym (append_assoc (answered a.own) (reply ∷ []) replies) ∙ ap (λ rs. rs ++ replies) (sym one.said);
+  holding = row.holding ∙ grind (arith, common_steps, drop-drop (length replies) 1 (hand_of a).holding) ∙ ap (drop (length replies)) (sym one.holding);
+}
+
 rest_row : (reply : Reply) (replies : List Reply) (p m q : Desk) → AnswersDesk (reply ∷ []) p m → AnswersDesk (reply ∷ replies) p q → AnswersDesk replies m q
 rest_row reply replies p m q s r = record {
   site = r.site ∙ sym s.site;
   account = r.account ∙ sym s.account;
   pocket = omega (arith, r.pocket, s.pocket, brought_first reply replies);
-  lanes = record {
-    site = r.lanes.site ∙ sym s.lanes.site;
-    flows = r.lanes.flows ∙ sym s.lanes.flows;
-    got = r.lanes.got ∙ sym s.lanes.got;
-    said = r.lanes.said ∙ sym (append_assoc (answered p.lanes.own) (reply ∷ []) (replies)) ∙ ap (λ rs. rs ++ replies) (sym s.lanes.said);
-    holding = r.lanes.holding ∙ grind (arith, common_steps, drop-drop (length replies) 1 (hand p).holding) ∙ ap (drop (length replies)) (sym s.lanes.holding);
-  };
+  lanes = rest_answered reply replies p.lanes m.lanes q.lanes s.lanes r.lanes;
 }
 
 -- what a row asks for

@@ -1,6 +1,6 @@
 //! What shows that an Accept comes out of order.
 
-ghost use Rattle.std.specs.Prelude.{◌≡◌, ◌<◌, ◌++◌, not, ◌&&◌, ◌==◌, nat_lt, IfOk, OnOk, All, filter_map, length, slice_get, slice_index};
+ghost use Rattle.std.specs.Prelude.{◌≡◌, ◌<◌, ◌++◌, not, ◌&&◌, ◌==◌, nat_lt, IfOk, OnOk, All, filter_map, length, option_map, slice_get, slice_index};
 ghost use Rattle.std.specs.BTreeSet.{contains};
 ghost use Rattle.std.specs.List.{find};
 ghost use Rattle.std.specs.Ordering.{nat_cmp};
@@ -10,6 +10,7 @@ ghost use Rattle.transcripts.specs.Lawful.{keeps_some};
 ghost use Rattle.transcripts.specs.Transcript.{accepted, hand, unanswered};
 ghost use Rattle.judge_app.specs.Forwards as sends;
 ghost use Rattle.judge_app.specs.Orders as orders;
+ghost use Rattle.judge_app.specs.declared.reason.Reason.TheVariants.{Order};
 
 use crate::forwards::sent_of;
 use crate::gifts::{keeps_order, kind_of};
@@ -106,6 +107,26 @@ fn first_kept(numbers: &[u64], sent: &[usize], taken: &[usize], number: u64) -> 
     None
 }
 
+/// What the other event shows, at its place, where it has one.
+fn disorder(
+    disorder: Disorder,
+    queue: usize,
+    number: u64,
+    other: u64,
+    place: Option<usize>,
+) -> Option<Reason>
+    ensures { result ≡ option_map (Order disorder queue number other) place }
+{
+    let at = place?;
+    Some(Reason::Order {
+        disorder,
+        queue,
+        number,
+        other,
+        at,
+    })
+}
+
 /// An event from which one was accepted, though it wasn't given as early as this one.
 fn later(
     alloc: Global,
@@ -120,16 +141,8 @@ fn later(
     let Some(other) = first_outside(&sources, &set_of(alloc, front)?) else {
         return Ok(None);
     };
-    match place_of_take(past, queue, other) {
-        Some(at) => Ok(Some(Reason::Order {
-            disorder: Disorder::Later,
-            queue,
-            number,
-            other,
-            at,
-        })),
-        None => Ok(None),
-    }
+    let place = place_of_take(past, queue, other);
+    Ok(disorder(Disorder::Later, queue, number, other, place))
 }
 
 /// An event that was given as early as this one, and isn't answered.
@@ -147,16 +160,8 @@ fn unanswered(
     let Some(other) = first_inside(front, &set_of(alloc, &held)?) else {
         return Ok(None);
     };
-    match place_of_give(past, queue, other) {
-        Some(at) => Ok(Some(Reason::Order {
-            disorder: Disorder::Unanswered,
-            queue,
-            number,
-            other,
-            at,
-        })),
-        None => Ok(None),
-    }
+    let place = place_of_give(past, queue, other);
+    Ok(disorder(Disorder::Unanswered, queue, number, other, place))
 }
 
 /// The first of the numbers but this one from which fewer events were accepted than it was passed on as.
@@ -192,16 +197,8 @@ fn kept(
     let Some(other) = first_due(alloc, shape, past, front, queue, number)? else {
         return Ok(None);
     };
-    match place_of_give(past, queue, other) {
-        Some(at) => Ok(Some(Reason::Order {
-            disorder: Disorder::Kept,
-            queue,
-            number,
-            other,
-            at,
-        })),
-        None => Ok(None),
-    }
+    let place = place_of_give(past, queue, other);
+    Ok(disorder(Disorder::Kept, queue, number, other, place))
 }
 
 /// What an Accept from a number of an ordered queue comes before, or behind.
@@ -282,16 +279,8 @@ fn behind(
     let Some(other) = first_above(shape, queue, &accepted, &sources, number) else {
         return Ok(None);
     };
-    match place_of_take(past, queue, other) {
-        Some(at) => Ok(Some(Reason::Order {
-            disorder: Disorder::Behind,
-            queue,
-            number,
-            other,
-            at,
-        })),
-        None => Ok(None),
-    }
+    let place = place_of_take(past, queue, other);
+    Ok(disorder(Disorder::Behind, queue, number, other, place))
 }
 
 /// What an Accept from this number of the queue comes before, or behind.

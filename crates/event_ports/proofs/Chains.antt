@@ -3,7 +3,7 @@ use Rattle.std.proofs.Common.{◌≡◌, ℕ, zero, suc, true, false, ◌+◌, �
 use Rattle.std.proofs.Math.Seq.{take-add}
 use Rattle.std.proofs.lemmas.Grind.{common_steps}
 use Rattle.std.proofs.lemmas.Bool.{false≢true}
-use Rattle.std.proofs.lemmas.List.{drop-drop, drop-map, length-map}
+use Rattle.std.proofs.lemmas.List.{drop-drop, drop-map, length-map, take-take, take_all}
 use Rattle.std.proofs.lemmas.List.Elements.{All-cons, All-nil}
 use Rattle.std.proofs.lemmas.Option.{slice_get_within}
 use Rattle.std.specs.Option.{is_some}
@@ -218,3 +218,31 @@ module _ (rs others rest : List Reply) (m : ℕ) (left : IsLeft rs others) (with
         let few = refused_within (events_of rs) (length rs - length rest) x p s (row_refused rs others rest m left within is p q s x chain row) in
         absurd (omega (arith, all, few, length-map rs (λ (r : Reply). r.event)))),
   )
+
+-- ---- a burst in parts
+
+-- what is left behind so many
+pub behind : {X : Type 0} (n : ℕ) (xs : List X) → n ≤ length xs → take (length xs - n) (drop n xs) ≡ drop n xs
+behind n xs within = take_all (length xs - n) (drop n xs) (omega (arith, length-drop n xs))
+
+-- what stands in the first of a list
+get_within : (k m : ℕ) (es : List Event) (e : Event) → slice_get (take k es) m ≡ Some e → slice_get es m ≡ Some e
+get_within zero m es e at = absurd (omega (arith, slice_get_within [] m e at))
+get_within (suc k) m [] e at = absurd (omega (arith, slice_get_within [] m e at))
+get_within (suc k) zero (x ∷ es) e at = at
+get_within (suc k) (suc m) (x ∷ es) e at = get_within k m es e at
+
+module _ (es : List Event) (n k m : ℕ) (p q s : Desk) (few : m ≤ k) (chain : EnqueuesAll (take n es) p q) where
+  -- of the part behind those that were taken so many were taken
+  pub part_taken : (between : Desk) → EnqueuesAll (take m (take k (drop n es))) q between → EnqueuesAll (take (n + m) es) p between
+  part_taken between more =
+      row_taken es (drop n es) n m p q between refl chain (subst (λ (xs : List Event). EnqueuesAll xs q between) (take-take m k (drop n es) few) more)
+
+  -- and then it was refused
+  pub part_ended : (end : Option Refused) → is_some end ≡ true → Bursts q (take k (drop n es)) m end s → Bursts p es (n + m) end s
+  part_ended None some part = absurd (false≢true some)
+  part_ended (Some x) some part = record {
+    between = part.between;
+    taken = part_taken part.between part.taken;
+    ends = (part.ends.0, get_behind n m es part.ends.0 (get_within k m (drop n es) part.ends.0 part.ends.1), part.ends.2);
+  }

@@ -1,6 +1,6 @@
 //! What a dequeue does at a port's desk, and the enqueue of several events.
 
-ghost use Rattle.std.specs.Prelude.{◌≡◌, ◌+◌, ◌%◌, ◌^◌, ◌<◌, ◌≤◌, [], length, IsTrue, ◌↔◌, IsErr, IsNone, IfOk, IfErr, OnOk, MatchResult};
+ghost use Rattle.std.specs.Prelude.{◌≡◌, ◌+◌, ◌%◌, ◌^◌, ◌<◌, ◌≤◌, [], length, min, take, IsTrue, ◌↔◌, IsErr, IsNone, IfOk, IfErr, OnOk, MatchResult};
 ghost use Rattle.evt_types.specs.declared.event.Op.TheVariants as ops;
 ghost use Rattle.flow_claims.specs.Answers.{AsksNone};
 ghost use Rattle.event_ports.specs.Claiming.{ClaimsEach};
@@ -14,22 +14,43 @@ use event_answers::{Behind, Refused};
 use evt_types::{Event, PackedEvent, Reply};
 use lane_rings::Deliveries;
 
-/// How many RELEASEs a row of a dequeue has at most.
+/// How many replies are made at a time of events that aren't packed yet, and of what a dequeue releases.
 const ROW: usize = 8;
 
+/// Packs the first of the events, each in the reply that carries it, as far as the array has room: how many.
+#[inline(always)]
+fn pack(events: &[Event], replies: &mut [Reply]) -> usize
+    ensures count { result ≡ min (length events.now) (length replies.old) }
+    ensures room { length replies.new ≡ length replies.old }
+    ensures packed { events_of (take result replies.new) ≡ take result events.now }
+{
+    let count = events.len().min(replies.len());
+    for position in 0..count {
+        replies[position] = Reply {
+            event: PackedEvent::of(&events[position]),
+        };
+    }
+    count
+}
+
 impl Desk {
-    // Enqueues the events, one after the other, up to the first that is refused.
+    // Enqueues the events, one after the other, up to the first that is refused: so many at a time are packed, and go as a burst of replies.
     pub(crate) fn submit_events(&mut self, events: &[Event]) -> (usize, Option<Refused>)
         ensures count { result.0 ≤ length events.now }
         ensures all { IsNone result.1 ↔ (result.0 ≡ length events.now) }
         ensures chain { Bursts self.old events.now result.0 result.1 self.new }
     {
-        for (taken, event) in events.iter().enumerate() {
-            if let Err(refused) = self.submit(&PackedEvent::of(event)) {
-                return (taken, Some(refused));
+        let mut replies = [Reply::default(); ROW];
+        let mut taken = 0;
+        while taken < events.len() {
+            let count = pack(&events[taken..], &mut replies);
+            let (sent, refused) = self.submit_burst(&replies[..count]);
+            taken += sent;
+            if refused.is_some() {
+                return (taken, refused);
             }
         }
-        (events.len(), None)
+        (taken, None)
     }
 
     // Enqueues what the replies bring, one after the other, up to the first that is refused: a row of them, then one by itself, until none is

@@ -177,7 +177,7 @@ impl Port {
     }
 
     /// Enqueues the events one after the other, each as `enqueue` does, up to the first that is refused: how many were taken, and why
-    /// the next one wasn't. Each goes into its ring by itself.
+    /// the next one wasn't. They are packed in parts, of which each goes as `enqueue_packed` has it.
     pub fn enqueue_burst(&mut self, events: &[Event]) -> (usize, Option<Refused>)
         ensures site { own_site self.new ≡ own_site self.old }
         ensures credit { Stays (account_of self.old) (account_of self.new) }

@@ -1,15 +1,9 @@
 -- A row and an event more were taken, or refused.
-use Rattle.std.proofs.Common.{rules, ◌≡◌, ◌≤◌, ◌∙◌, ◌-◌, ◌∷◌, ℕ, List, length, length-drop, drop, refl, sym, take, arith}
-use Rattle.std.proofs.lemmas.List.{take_all}
-use Rattle.evt_types.specs.declared.event.Reply.{Reply}
+use Rattle.std.proofs.Common.{rules, ◌≡◌, ◌∙◌, ◌-◌, ◌∷◌, length, drop, refl, sym, take}
 use Rattle.event_ports.proofs.Refusing.{same_refusal}
 use Rattle.event_ports.specs.Desks.{events_of}
-use Rattle.event_ports.proofs.Chains.{all_chained, chained, left_next, left_others, left_row, not_refused, one_chained, row_chained, row_ended, row_ended_before, stops_burst}
+use Rattle.event_ports.proofs.Chains.{all_chained, behind, chained, left_next, left_others, left_row, not_refused, one_chained, row_chained, row_ended, row_ended_before, stops_burst}
 use Rattle.event_ports.proofs.desk.Desk.submit_burst.Goals as goal
-
--- what is left behind a row
-behind : (n : ℕ) (rs : List Reply) → n ≤ length rs → take (length rs - n) (drop n rs) ≡ drop n rs
-behind n rs within = take_all (length rs - n) (drop n rs) (omega (arith, length-drop n rs))
 
 pub returns-then-is_some-clause-chain : goal.returns-then-is_some-clause-chain
 returns-then-is_some-clause-chain c =

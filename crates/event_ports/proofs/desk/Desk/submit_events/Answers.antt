@@ -1,30 +1,33 @@
--- One event more was taken, or refused.
-use Rattle.std.proofs.Common.{rules, ◌∙◌, ap, sym, Some, refl, subst, take}
-use Rattle.event_ports.proofs.Refusing.{same_refusal}
-use Rattle.event_ports.specs.Desks.{EnqueuesAll}
-use Rattle.event_ports.proofs.Chains.{stops_burst}
-use Rattle.event_ports.proofs.Bursts.{chain_taken, read_next}
+-- One part more was taken, or refused.
+use Rattle.std.proofs.Common.{◌≤◌, ◌∙◌, List, drop, length, length-drop, length-take, take, ap, sym, subst, arith}
+use Rattle.evt_types.specs.declared.event.Event.{Event}
+use Rattle.event_ports.specs.Desks.{Bursts}
+use Rattle.event_ports.proofs.Chains.{behind, chained, not_refused, part_ended, part_taken}
 use Rattle.event_ports.proofs.desk.Desk.submit_events.Goals as goal
 
-pub returns-in-Err-clause-chain : goal.returns-in-Err-clause-chain
-returns-in-Err-clause-chain c =
-    stops_burst c.args.events.now _ c.of.result _ c.args.self.now c.loop-taken.self c.submit.new.self c.loop-taken.invariant
-    (read_next c.args.events.now c.loop-taken.taken c.index-events-taken.result c.loop-taken-test.true c.index-events-taken.is ∙ ap Some (sym c.of.ensures))
-    c.submit.ensures.site c.submit.ensures.credit c.in-Err.ensures.submitted c.in-Err.ensures.refused
-    (λ saw new. same_refusal _ _ (c.in-Err.ensures.stopped saw new))
+pub returns-then-is_some-clause-chain : goal.returns-then-is_some-clause-chain
+returns-then-is_some-clause-chain c =
+    let es = c.args.events.now in
+    let n = c.loop-taken.taken in
+    let k = c.pack-count.result in
+    let m = c.submit_burst-sent.result.0 in
+    let few : m ≤ k = omega (arith, c.submit_burst-sent.ensures.count, length-take k c.pack-count.new.replies) in
+    let part : Bursts c.loop-taken.self (take k (drop n es)) m c.submit_burst-sent.result.1 c.submit_burst-sent.new.self =
+    subst (λ (xs : List Event). Bursts c.loop-taken.self xs m c.submit_burst-sent.result.1 c.submit_burst-sent.new.self)
+    (c.pack-count.ensures.packed ∙ ap (take k) (behind n es c.loop-taken.invariant.1)) c.submit_burst-sent.ensures.chain in
+    part_ended es n k m c.args.self.now c.loop-taken.self c.submit_burst-sent.new.self few c.loop-taken.invariant.0 c.submit_burst-sent.result.1 (sym c.is_some.ensures ∙ c.if-is_some.true) part
 
 pub loop-taken-preserved : goal.loop-taken-preserved
 loop-taken-preserved c =
-    chain_taken c.args.events.now c.loop-taken.taken c.of.result c.args.self.now c.loop-taken.self c.submit.new.self
-    (read_next c.args.events.now c.loop-taken.taken c.index-events-taken.result c.loop-taken-test.true c.index-events-taken.is ∙ ap Some (sym c.of.ensures)) c.loop-taken.invariant
-    (record {
-      site = c.submit.ensures.site;
-      credit = c.submit.ensures.credit;
-      submitted = c.in_default.ensures.submitted;
-      pays = c.in_default.ensures.pays;
-      there = c.in_default.ensures.there;
-      unshut = (search rules);
-    })
-
-pub returns-clause-chain : goal.returns-clause-chain
-returns-clause-chain c = record { between = c.loop-taken.self; taken = subst (λ n. EnqueuesAll (take n c.args.events.now) c.args.self.now c.loop-taken.self) (search rules) c.loop-taken.invariant; ends = refl }
+    let es = c.args.events.now in
+    let n = c.loop-taken.taken in
+    let k = c.pack-count.result in
+    let m = c.submit_burst-sent.result.0 in
+    let few : m ≤ k = omega (arith, c.submit_burst-sent.ensures.count, length-take k c.pack-count.new.replies) in
+    let part : Bursts c.loop-taken.self (take k (drop n es)) m c.submit_burst-sent.result.1 c.submit_burst-sent.new.self =
+    subst (λ (xs : List Event). Bursts c.loop-taken.self xs m c.submit_burst-sent.result.1 c.submit_burst-sent.new.self)
+    (c.pack-count.ensures.packed ∙ ap (take k) (behind n es c.loop-taken.invariant.1)) c.submit_burst-sent.ensures.chain in (
+      part_taken es n k m c.args.self.now c.loop-taken.self c.submit_burst-sent.new.self few c.loop-taken.invariant.0 c.submit_burst-sent.new.self
+          (chained (take k (drop n es)) m c.submit_burst-sent.result.1 c.loop-taken.self c.submit_burst-sent.new.self (not_refused _ (sym c.is_some.ensures ∙ c.if-is_some.false)) part),
+      omega (arith, few, c.pack-count.ensures.count, ap length (behind n es c.loop-taken.invariant.1), length-drop n es, c.loop-taken.invariant.1),
+    )

@@ -1,5 +1,5 @@
 -- The faults of the reading are faults of the check.
-use Rattle.std.proofs.Common.{◌≡◌, ℕ, ◌<◌, List, Option, Some, None, length, refl, sym, ap, subst, ◌∙◌}
+use Rattle.std.proofs.Common.{◌≡◌, ℕ, ◌<◌, List, Option, Some, None, length, refl, sym, ap, ◌∙◌}
 use Rattle.std.proofs.lemmas.Bool.{lt-ltb}
 use Rattle.play_documents.specs.Document.{document_of}
 use Rattle.play_documents.specs.Numbers.{most_input}

@@ -1,22 +1,48 @@
 //! A document's fault is looked for and explained.
 
 ghost use Rattle.std.specs.Prelude.{◌≡◌, IfOk, IfErr, IfSome, OnOk, None};
-ghost use Rattle.command_line.specs.Input.{HasRead};
+ghost use Rattle.command_line.specs.Input.{HasRead, IsInputFault};
 ghost use Rattle.document_checks.specs.Explanations.{fault_of_either};
 ghost use Rattle.pipeline_app.specs.Checks.{IsCheckFault};
 
 use command_line::{AppFault, read_all};
-use document_checks::{explain, too_long};
+use document_checks::{explain, explain_run, too_long};
 use play_documents::DocFault;
 use std::alloc::Global;
 use std::io::Read;
 
-/// Says why a document isn't read whole, where it is too long.
-pub(crate) fn explain_input(alloc: Global, fault: &AppFault, why: &mut String) {
-    if *fault == AppFault::Document(DocFault::TooLong) {
+/// Reads a document, as `read_all` does. Where it is too long, `why` says so.
+pub(crate) fn read_explained<R: Read>(
+    alloc: Global,
+    reader: &mut R,
+    why: &mut String,
+) -> Result<Vec<u8>, AppFault>
+    ensures all { IfOk result (λ v. IfSome (R.remaining reader.old) (λ input. v.items ≡ input)) }
+    ensures err { IfErr result (IsInputFault (R.remaining reader.old)) }
+    ensures reads { HasRead (R.remaining reader.old) (R.remaining reader.new) result }
+{
+    let result = read_all(alloc, reader);
+    if let Err(AppFault::Document(DocFault::TooLong)) = &result {
         if let Ok(explanation) = too_long(alloc) {
             *why = explanation.text;
         }
+    }
+    result
+}
+
+/// Where a pipeline's document was refused, `why` says where it has its fault and which.
+pub(crate) fn explain_refusal<T>(
+    alloc: Global,
+    bytes: &[u8],
+    workers: u32,
+    ran: &Result<T, AppFault>,
+    why: &mut String,
+) {
+    let Err(AppFault::Document(_)) = ran else {
+        return;
+    };
+    if let Ok(Some(explanation)) = explain_run(alloc, bytes, workers as usize) {
+        *why = explanation.text;
     }
 }
 
@@ -32,13 +58,7 @@ pub fn check<R: Read>(
     ensures err { IfErr result (IsCheckFault workers (R.remaining reader.old)) }
     ensures reads { HasRead (R.remaining reader.old) (R.remaining reader.new) result }
 {
-    let bytes = match read_all(alloc, reader) {
-        Ok(bytes) => bytes,
-        Err(fault) => {
-            explain_input(alloc, &fault, why);
-            return Err(fault);
-        }
-    };
+    let bytes = read_explained(alloc, reader, why)?;
     match explain(alloc, &bytes, workers as usize) {
         Ok(None) => Ok(()),
         Ok(Some(explanation)) => {

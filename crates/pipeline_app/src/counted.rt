@@ -7,10 +7,9 @@ ghost use Rattle.command_line.specs.Input.{HasRead};
 ghost use Rattle.pipeline_app.specs.Runs.{AfterFault, AreRunCounts, HasCounts, HasText, IsEarlyFault, IsFaultOf, IsRunFault, IsRunnable, WritesText, stats_text};
 ghost use Rattle.run_documents.specs.Pipelines.{planned_of};
 
-use crate::checking::explain_input;
+use crate::checking::{explain_refusal, read_explained};
 use crate::run::{ONE, accepted_text, log_text, run_fault};
-use command_line::{AppFault, read_all, write_text};
-use document_checks::explain_run;
+use command_line::{AppFault, write_text};
 use evt_types::{Serving, Step};
 use pipeline_laws::{AcceptedLog, answers_are_due};
 use pipeline_threads::{Gate, Phase, run_counted};
@@ -135,19 +134,9 @@ fn counted_text<R: Threads + Wait + Sync, I: Read, G: Gate>(
     ensures reads { HasRead (I.remaining reader.old) (I.remaining reader.new) result }
 {
     gate.begins(Phase::Reading);
-    let bytes = match read_all(alloc, reader) {
-        Ok(bytes) => bytes,
-        Err(fault) => {
-            explain_input(alloc, &fault, why);
-            return Err(fault);
-        }
-    };
+    let bytes = read_explained(alloc, reader, why)?;
     let result = document_counted(rt, alloc, &bytes, workers, gate);
-    if let Err(AppFault::Document(_)) = &result {
-        if let Ok(Some(explanation)) = explain_run(alloc, &bytes, workers as usize) {
-            *why = explanation.text;
-        }
-    }
+    explain_refusal(alloc, &bytes, workers, &result, why);
     result
 }
 

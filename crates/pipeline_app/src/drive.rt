@@ -8,10 +8,10 @@ ghost use Rattle.play_documents.specs.Command.{AllPortsThere, line_of};
 ghost use Rattle.command_line.specs.Input.{HasRead};
 ghost use Rattle.pipeline_app.specs.Play.{IsRun, HasRun, WritesRun, AfterFault, IsEarlyFault, IsFaultOf, form_of, run_form};
 
-use crate::checking::explain_input;
+use crate::checking::read_explained;
 use crate::form::{Form, made_of};
 use crate::obey::obey_all;
-use command_line::{AppFault, read_all, write_text};
+use command_line::{AppFault, write_text};
 use document_checks::explain_play;
 use event_device::{Device, DeviceFault, Report};
 use evt_types::{Shape, Step};
@@ -66,16 +66,6 @@ fn document_text(alloc: Global, form: Form, bytes: &[u8]) -> Result<String, AppF
     run_text(alloc, form, document)
 }
 
-/// The text of the run of the document that the reader gives.
-fn played_text<R: Read>(alloc: Global, reader: &mut R) -> Result<String, AppFault>
-    ensures run { IfOk result (λ text. HasRun run_form (R.remaining reader.old) (string_bytes text)) }
-    ensures fault { IfErr result (IsEarlyFault (R.remaining reader.old)) }
-    ensures reads { HasRead (R.remaining reader.old) (R.remaining reader.new) result }
-{
-    let bytes = read_all(alloc, reader)?;
-    document_text(alloc, Form::Text, &bytes)
-}
-
 /// What is made of the run of the document that the reader gives. Where the document has a fault, `why` says where it is and why.
 fn explained_text<R: Read>(
     alloc: Global,
@@ -87,13 +77,7 @@ fn explained_text<R: Read>(
     ensures fault { IfErr result (IsEarlyFault (R.remaining reader.old)) }
     ensures reads { HasRead (R.remaining reader.old) (R.remaining reader.new) result }
 {
-    let bytes = match read_all(alloc, reader) {
-        Ok(bytes) => bytes,
-        Err(fault) => {
-            explain_input(alloc, &fault, why);
-            return Err(fault);
-        }
-    };
+    let bytes = read_explained(alloc, reader, why)?;
     let result = document_text(alloc, form, &bytes);
     if let Err(AppFault::Document(_)) = &result {
         if let Ok(Some(explanation)) = explain_play(alloc, &bytes) {
@@ -115,8 +99,8 @@ pub fn play<R: Read, W: Write>(
     ensures fault { IfErr result (IsFaultOf (R.remaining reader.old)) }
     ensures reads { HasRead (R.remaining reader.old) (R.remaining reader.new) result }
 {
-    let text = played_text(alloc, reader)?;
-    write_text(writer, text.as_bytes())
+    let mut why = String::new(alloc);
+    play_as(alloc, Form::Text, reader, writer, &mut why)
 }
 
 /// Does what `play` does, and writes what the form makes of the run. Where the document has a fault, `why` says where it is and why, in

@@ -8,9 +8,8 @@ ghost use Rattle.command_line.specs.Input.{HasRead};
 ghost use Rattle.pipeline_app.specs.Runs.{AfterFault, HasText, IsEarlyFault, IsFaultOf, IsRunFault, IsRunnable, WritesText, run_fault};
 ghost use Rattle.run_documents.specs.Pipelines.{planned_of};
 
-use crate::checking::explain_input;
-use command_line::{AppFault, read_all, write_text};
-use document_checks::explain_run;
+use crate::checking::{explain_refusal, read_explained};
+use command_line::{AppFault, write_text};
 use event_device::StepLog;
 use evt_types::{Serving, Step};
 use pipeline_laws::{AcceptedLog, answers_are_due, write_accepted, write_run};
@@ -159,24 +158,6 @@ fn document_text<R: Threads + Wait + Sync, G: Gate>(
     pipeline_text(rt, alloc, pipeline, ONE, gate)
 }
 
-/// The text of the run of the document that the reader gives.
-fn ran_text<R: Threads + Wait + Sync, I: Read, G: Gate>(
-    rt: &R,
-    alloc: Global,
-    reader: &mut I,
-    workers: u32,
-    gate: &G,
-) -> Result<String, AppFault>
-    requires { 1 ≤ workers }
-    ensures text { IfOk result (λ text. HasText workers (I.remaining reader.old) (string_bytes text)) }
-    ensures fault { IfErr result (IsEarlyFault workers (I.remaining reader.old)) }
-    ensures reads { HasRead (I.remaining reader.old) (I.remaining reader.new) result }
-{
-    gate.begins(Phase::Reading);
-    let bytes = read_all(alloc, reader)?;
-    document_text(rt, alloc, &bytes, workers, gate)
-}
-
 /// The text of the run of the document that the reader gives. Where the document has a fault, `why` says where it is and why.
 fn explained_text<R: Threads + Wait + Sync, I: Read, G: Gate>(
     rt: &R,
@@ -192,19 +173,9 @@ fn explained_text<R: Threads + Wait + Sync, I: Read, G: Gate>(
     ensures reads { HasRead (I.remaining reader.old) (I.remaining reader.new) result }
 {
     gate.begins(Phase::Reading);
-    let bytes = match read_all(alloc, reader) {
-        Ok(bytes) => bytes,
-        Err(fault) => {
-            explain_input(alloc, &fault, why);
-            return Err(fault);
-        }
-    };
+    let bytes = read_explained(alloc, reader, why)?;
     let result = document_text(rt, alloc, &bytes, workers, gate);
-    if let Err(AppFault::Document(_)) = &result {
-        if let Ok(Some(explanation)) = explain_run(alloc, &bytes, workers as usize) {
-            *why = explanation.text;
-        }
-    }
+    explain_refusal(alloc, &bytes, workers, &result, why);
     result
 }
 
@@ -227,9 +198,8 @@ pub fn run_trace<R: Threads + Wait + Sync, I: Read, W: Write, G: Gate>(
     ensures fault { IfErr result (IsFaultOf workers (I.remaining reader.old)) }
     ensures reads { HasRead (I.remaining reader.old) (I.remaining reader.new) result }
 {
-    let text = ran_text(rt, alloc, reader, workers, gate)?;
-    gate.begins(Phase::Writing);
-    write_text(writer, text.as_bytes())
+    let mut why = String::new(alloc);
+    run_explained(rt, alloc, reader, workers, gate, writer, &mut why)
 }
 
 /// Does what `run_trace` does. Where the document has a fault, `why` says where it is and why, in lines that end in a line feed.
